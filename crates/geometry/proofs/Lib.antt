@@ -1,0 +1,2 @@
+pub mod TileLaws
+pub mod Worked

@@ -1,0 +1,4 @@
+pub mod TileGrid
+pub mod Tiles
+pub mod Components
+pub mod Worked

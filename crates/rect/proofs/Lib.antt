@@ -1,0 +1,3 @@
+pub mod Ceil
+pub mod Weights
+pub mod Places
