@@ -20,27 +20,31 @@ pub table-read :
     → (vs ≡ ws ++ valuesAt fs d p) × (q ≡ p + total fs)
 table-read [] d p ws vs q e = (let s : vs ≡ ws = cc in s ∙ sym (append-nil ws), let s : q ≡ p = cc in s ∙ sym (add-zero p))
 table-read (f ∷ fs) d p ws vs q e =
-    elim (cases-bool (leb (p + size (f .width)) (length d)))
-    [ inl t ↦
-        elim (cases-bool (f .admits ws (valueAt (f .width) d p)))
-        [ inl a ↦
-            let r = table-read fs d (p + size (f .width)) (ws ++ valueAt (f .width) d p ∷ []) vs q (rw (t, a) at e) in
-            (r .0 ∙ append-assoc ws (valueAt (f .width) d p ∷ []) (valuesAt fs d (p + size (f .width))), r .1 ∙ add-assoc p (size (f .width)) (total fs))
-        | inr a ↦ never _ vs q _ _ refl (rw (t, a) at e) ]
-    | inr t ↦ never _ vs q _ _ refl (rw t at e) ]
+    elim (cases-bool (leb (p + size (f .width)) (length d))) [
+      | inl t ↦
+          elim (cases-bool (f .admits ws (valueAt (f .width) d p))) [
+            | inl a ↦
+                let r = table-read fs d (p + size (f .width)) (ws ++ valueAt (f .width) d p ∷ []) vs q (rw (t, a) at e) in
+                (r .0 ∙ append-assoc ws (valueAt (f .width) d p ∷ []) (valuesAt fs d (p + size (f .width))), r .1 ∙ add-assoc p (size (f .width)) (total fs))
+            | inr a ↦ never _ vs q _ _ refl (rw (t, a) at e)
+          ]
+      | inr t ↦ never _ vs q _ _ refl (rw t at e)
+    ]
 
 -- a table that is read lies inside
 pub table-inside :
     (fs : List Field) (d : List ℕ) (p : ℕ) (ws vs : List ℕ) (q : ℕ) → p ≤ length d → reading fs d p ws ≡ read vs q → q ≤ length d
 table-inside [] d p ws vs q h e = let s : q ≡ p = cc in omega arith
 table-inside (f ∷ fs) d p ws vs q h e =
-    elim (cases-bool (leb (p + size (f .width)) (length d)))
-    [ inl t ↦
-        elim (cases-bool (f .admits ws (valueAt (f .width) d p)))
-        [ inl a ↦
-            table-inside fs d (p + size (f .width)) (ws ++ valueAt (f .width) d p ∷ []) vs q (leb-true _ _ t) (rw (t, a) at e)
-        | inr a ↦ never _ vs q _ _ refl (rw (t, a) at e) ]
-    | inr t ↦ never _ vs q _ _ refl (rw t at e) ]
+    elim (cases-bool (leb (p + size (f .width)) (length d))) [
+      | inl t ↦
+          elim (cases-bool (f .admits ws (valueAt (f .width) d p))) [
+            | inl a ↦
+                table-inside fs d (p + size (f .width)) (ws ++ valueAt (f .width) d p ∷ []) vs q (leb-true _ _ t) (rw (t, a) at e)
+            | inr a ↦ never _ vs q _ _ refl (rw (t, a) at e)
+          ]
+      | inr t ↦ never _ vs q _ _ refl (rw t at e)
+    ]
 
 pub first-inside :
     (f : Field) (fs : List Field) (d : List ℕ) (p : ℕ) (ws vs : List ℕ) (q : ℕ) → reading (f ∷ fs) d p ws ≡ read vs q
@@ -52,9 +56,10 @@ pub first-admitted :
     (f : Field) (fs : List Field) (d : List ℕ) (p : ℕ) (ws vs : List ℕ) (q : ℕ) → reading (f ∷ fs) d p ws ≡ read vs q
     → f .admits ws (valueAt (f .width) d p) ≡ true
 first-admitted f fs d p ws vs q e =
-    elim (cases-bool (leb (p + size (f .width)) (length d)))
-    [ inl t ↦ elim (cases-bool (f .admits ws (valueAt (f .width) d p))) [ inl a ↦ a | inr a ↦ never _ vs q _ _ refl (rw (t, a) at e) ]
-    | inr t ↦ never _ vs q _ _ refl (rw t at e) ]
+    elim (cases-bool (leb (p + size (f .width)) (length d))) [
+      | inl t ↦ elim (cases-bool (f .admits ws (valueAt (f .width) d p))) [ inl a ↦ a | inr a ↦ never _ vs q _ _ refl (rw (t, a) at e) ]
+      | inr t ↦ never _ vs q _ _ refl (rw t at e)
+    ]
 
 pub reads-all : Reads-all
 reads-all fs d p vs q e = table-read fs d p [] vs q e

@@ -29,13 +29,13 @@ abbrev pub run-more :
     → Run l n d p0 (k + 1) q
 run-more l n d p0 k p ws q r lt e =
     let m : n - k ≡ suc (n - (k + 1)) = omega arith in
-    record
-    { vs = r .vs ++ ws
-    ; rest =
-        r .rest
-        ∙ ap (λ (m : ℕ). prefixed (r .vs) (meaning (times m l) d p)) m
-        ∙ ap (λ (R : Reading). prefixed (r .vs) (followed R (λ vs q. meaning (times (n - (k + 1)) l) d q))) e
-        ∙ prefixed-twice (r .vs) ws (meaning (times (n - (k + 1)) l) d q)
+    record {
+      vs = r .vs ++ ws;
+      rest =
+          r .rest
+          ∙ ap (λ (m : ℕ). prefixed (r .vs) (meaning (times m l) d p)) m
+          ∙ ap (λ (R : Reading). prefixed (r .vs) (followed R (λ vs q. meaning (times (n - (k + 1)) l) d q))) e
+          ∙ prefixed-twice (r .vs) ws (meaning (times (n - (k + 1)) l) d q);
     }
 
 pub run-failed :

@@ -60,10 +60,10 @@ reading [] d p vs = read vs p
 reading (f ∷ fs) d p vs =
     cond
     (leb (p + size (f .width)) (length d))
-    ( cond
-      (f .admits vs (valueAt (f .width) d p))
-      (reading fs d (p + size (f .width)) (vs ++ valueAt (f .width) d p ∷ []))
-      (failed (Value p) (p + size (f .width))))
+    (cond
+    (f .admits vs (valueAt (f .width) d p))
+    (reading fs d (p + size (f .width)) (vs ++ valueAt (f .width) d p ∷ []))
+    (failed (Value p) (p + size (f .width))))
     (failed (Short (record { place = p })) p)
 
 abbrev pub prefixed : List ℕ → Reading → Reading

@@ -28,10 +28,11 @@ pub part-long :
     (d s : List ℕ) (p v : ℕ) → s ≡ take 4 (drop p d) → v ≡ getD s 0 0 * 16777216 + getD s 1 0 * 65536 + getD s 2 0 * 256 + getD s 3 0
     → v ≡ longAt d p
 part-long d s p v e w =
-    omega
-    ( arith
-    , part-first d s p 4 (lit< tt) e
-    , part-at d s p 4 1 (lit< tt) e
-    , part-at d s p 4 2 (lit< tt) e
-    , part-at d s p 4 3 (lit< tt) e
-    , ap (λ (k : ℕ). getD d k 0) (add-assoc p 2 1))
+    omega (
+      arith,
+      part-first d s p 4 (lit< tt) e,
+      part-at d s p 4 1 (lit< tt) e,
+      part-at d s p 4 2 (lit< tt) e,
+      part-at d s p 4 3 (lit< tt) e,
+      ap (λ (k : ℕ). getD d k 0) (add-assoc p 2 1),
+    )

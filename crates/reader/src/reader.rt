@@ -136,7 +136,10 @@ impl<'a> BitReader<'a> {
     pub fn peek_marker(&self) -> Option<u8>
         ensures { λ r. ⌜ r ≡ markerAt (bytesOf (now (self .entry))) (now (self .entry) .place) ⌝ }
     {
-        if self.place < self.data.len() && self.data.len() - self.place >= 2 && self.data[self.place] == 0xff {
+        if self.place < self.data.len()
+            && self.data.len() - self.place >= 2
+            && self.data[self.place] == 0xff
+        {
             Some(self.data[self.place + 1])
         } else {
             None

@@ -56,10 +56,11 @@ components-read (suc n) d p vs q e =
     let a = table-read componentTable d p [] (s .ws) (s .middle) (s .first) in
     let b = component-end d p (s .ws) (s .middle) (s .first) in
     let r = components-read n d (s .middle) (s .us) q (s .second) in
-    let m : 3 * suc n ≡ suc (suc (suc (3 * n))) = omega arith in
-    ( s .joined ∙ ap₂ _++_ (a .0) (r .0) ∙ sym (part-three (3 * suc n) (3 * n) d p (s .middle) m (b .0) (b .1))
-    , λ _. inside n (r .1) (b .0) (b .1)
-    , omega (arith, r .2, b .0))
+    let m : 3 * suc n ≡ suc (suc (suc (3 * n))) = omega arith in (
+      s .joined ∙ ap₂ _++_ (a .0) (r .0) ∙ sym (part-three (3 * suc n) (3 * n) d p (s .middle) m (b .0) (b .1)),
+      λ _. inside n (r .1) (b .0) (b .1),
+      omega (arith, r .2, b .0),
+    )
   where
     inside :
         (n : ℕ) {m : ℕ} → (0 < n → m + 3 * n ≤ length d) → m ≡ p + 3 → p + 3 ≤ length d → p + 3 * suc n ≤ length d
@@ -97,10 +98,10 @@ pub listed-more :
     (n : ℕ) (d : List ℕ) (p0 k p : ℕ) (s b : Bool) (ws : List ℕ) (q : ℕ) → Listed n d p0 k p s → k < n
     → reading componentTable d p [] ≡ read ws q → MadeComponent b ws → Listed n d p0 (k + 1) q (s && b)
 listed-more n d p0 k p s b ws q r lt e m =
-    record
-    { run = run-more (fields componentTable) n d p0 k p ws q (r .run) lt e
-    ; long = omega (arith, length-append (r .run .vs) ws, r .long, m .count)
-    ; flag = sampled-push k (r .run .vs) ws s b (r .long) (r .flag) (m .sampled) ∙ ap (λ (j : ℕ). sampled j (r .run .vs ++ ws)) (sym (add-one k))
+    record {
+      run = run-more (fields componentTable) n d p0 k p ws q (r .run) lt e;
+      long = omega (arith, length-append (r .run .vs) ws, r .long, m .count);
+      flag = sampled-push k (r .run .vs) ws s b (r .long) (r .flag) (m .sampled) ∙ ap (λ (j : ℕ). sampled j (r .run .vs ++ ws)) (sym (add-one k));
     }
 
 pub listed-failed :
@@ -111,7 +112,7 @@ listed-failed n d p0 k p s e q r lt f = run-failed (fields componentTable) n d p
 pub listed-all :
     (n : ℕ) (d : List ℕ) (p0 k p : ℕ) (s : Bool) → Listed n d p0 k p s → n ≤ k → k ≤ n
     → (meaning (componentsLayout n) d p0 ≡ read (valuesOf (meaning (componentsLayout n) d p0)) p)
-      × (s ≡ sampled n (valuesOf (meaning (componentsLayout n) d p0)))
+    × (s ≡ sampled n (valuesOf (meaning (componentsLayout n) d p0)))
 listed-all n d p0 k p s r le ge =
     let e = run-all (fields componentTable) n d p0 k p (r .run) le in
     let m : k ≡ n = omega arith in
@@ -124,10 +125,11 @@ pub components-precise :
 components-precise zero d p vs q e k h = absurd (omega arith)
 components-precise (suc n) d p vs q e zero h =
     let s = followed-read (reading componentTable d p []) _ vs q e in
-    let z : p + 3 * 0 ≡ p = omega arith in
-    ( omega (arith, component-end d p (s .ws) (s .middle) (s .first) .1)
-    , ap (λ (x : ℕ). leb (precisionOf (byteAt d x)) 31) z
-      ∙ first-admitted (field one (precise 31)) (field one any ∷ field one any ∷ []) d p [] (s .ws) (s .middle) (s .first))
+    let z : p + 3 * 0 ≡ p = omega arith in (
+      omega (arith, component-end d p (s .ws) (s .middle) (s .first) .1),
+      ap (λ (x : ℕ). leb (precisionOf (byteAt d x)) 31) z
+          ∙ first-admitted (field one (precise 31)) (field one any ∷ field one any ∷ []) d p [] (s .ws) (s .middle) (s .first),
+    )
 components-precise (suc n) d p vs q e (suc k) h =
     let s = followed-read (reading componentTable d p []) _ vs q e in
     let r = components-precise n d (s .middle) (s .us) q (s .second) k (omega arith) in
@@ -147,9 +149,10 @@ pub sampled-each :
 sampled-each zero cs e k h = absurd (omega arith)
 sampled-each (suc n) cs e k h =
     let b = both (sampled n cs) (ltb 0 (getD cs (3 * n + 1) 0) && ltb 0 (getD cs (3 * n + 2) 0)) e in
-    elim (cases-eq k n)
-    [ inl same ↦ rw same (both (ltb 0 (getD cs (3 * n + 1) 0)) (ltb 0 (getD cs (3 * n + 2) 0)) (b .1))
-    | inr other ↦ sampled-each n cs (b .0) k (omega (arith, other)) ]
+    elim (cases-eq k n) [
+      | inl same ↦ rw same (both (ltb 0 (getD cs (3 * n + 1) 0)) (ltb 0 (getD cs (3 * n + 2) 0)) (b .1))
+      | inr other ↦ sampled-each n cs (b .0) k (omega (arith, other))
+    ]
 
 -- component k of an accepted list
 pub component-there :
@@ -160,9 +163,9 @@ component-there n d p vs q e s k h =
     let all = components-read n d p vs q e .0 in
     let t = sampled-each n vs s k h in
     let x : getD vs (3 * k + 1) 0 ≡ byteAt d (p + 3 * k + 1) =
-          part-at d vs p (3 * n) (3 * k + 1) (omega arith) all ∙ ap (λ (i : ℕ). byteAt d i) (omega arith) in
+    part-at d vs p (3 * n) (3 * k + 1) (omega arith) all ∙ ap (λ (i : ℕ). byteAt d i) (omega arith) in
     let y : getD vs (3 * k + 2) 0 ≡ byteAt d (p + 3 * k + 2) =
-          part-at d vs p (3 * n) (3 * k + 2) (omega arith) all ∙ ap (λ (i : ℕ). byteAt d i) (omega arith) in
+    part-at d vs p (3 * n) (3 * k + 2) (omega arith) all ∙ ap (λ (i : ℕ). byteAt d i) (omega arith) in
     let a : leb (p + 3 * k + 3) (length d) ≡ true = le-leb _ _ (r .0) in
     let u : ltb 0 (byteAt d (p + 3 * k + 1)) ≡ true = rw x at (t .0) in
     let v : ltb 0 (byteAt d (p + 3 * k + 2)) ≡ true = rw y at (t .1) in
@@ -174,21 +177,26 @@ pub component-handed :
     → p + 3 ≤ length d → bs ≡ part 3 d p → Says (getD bs 0 0) (getD bs 1 0) (getD bs 2 0) r → Hands d s k r
 component-handed d s k p bs r lt e h f says =
     subst (λ (x : ℕ). HandsAt d k (s .csiz) x r) e
-    ( go r
-      ( subst (λ (n : ℕ). Says n (byteAt d (p + 1)) (byteAt d (p + 2)) r) first
-        ( subst (λ (n : ℕ). Says (getD bs 0 0) n (byteAt d (p + 2)) r) second
-          (subst (λ (n : ℕ). Says (getD bs 0 0) (getD bs 1 0) n r) third says))))
+    (go r
+    (subst (λ (n : ℕ). Says n (byteAt d (p + 1)) (byteAt d (p + 2)) r) first
+    (subst (λ (n : ℕ). Says (getD bs 0 0) n (byteAt d (p + 2)) r) second
+    (subst (λ (n : ℕ). Says (getD bs 0 0) (getD bs 1 0) n r) third says))))
   where
     first : getD bs 0 0 ≡ byteAt d p
     first = part-first d bs p 3 (omega arith) f
+
     second : getD bs 1 0 ≡ byteAt d (p + 1)
     second = part-at d bs p 3 1 (omega arith) f
+
     third : getD bs 2 0 ≡ byteAt d (p + 2)
     third = part-at d bs p 3 2 (omega arith) f
+
     there : leb (p + 3) (length d) ≡ true
     there = le-leb (p + 3) (length d) h
+
     below : ltb k (s .csiz) ≡ true
     below = lt-ltb k (s .csiz) lt
+
     go : (r : Option ComponentSizeInfo) → Says (byteAt d p) (byteAt d (p + 1)) (byteAt d (p + 2)) r → HandsAt d k (s .csiz) p r
     go None y = rw (below, there) y
     go (Some c) y = (lt, rw there (y .0), y .1, y .2, y .3)

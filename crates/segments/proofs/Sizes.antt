@@ -72,7 +72,7 @@ sections d p vs q e =
     let many : getD vs 10 0 ≡ getD (t .ws) 4 0 = ap (λ (l : List ℕ). getD l 10 0) all ∙ csiz-at (s .ws) (t .ws) (t .us) six five in
     let rest : drop 11 vs ≡ t .us = ap (λ (l : List ℕ). drop 11 l) all ∙ behind-both (s .ws) (t .ws) (t .us) six five in
     let list : meaning (componentsLayout (getD vs 10 0)) d (p + 38) ≡ read (drop 11 vs) q =
-          ap₂ (λ (n r : ℕ). meaning (componentsLayout n) d r) many (sym place) ∙ t .second ∙ ap (λ (l : List ℕ). read l q) (sym rest) in
+    ap₂ (λ (n r : ℕ). meaning (componentsLayout n) d r) many (sym place) ∙ t .second ∙ ap (λ (l : List ℕ). read l q) (sym rest) in
     record { bytes = components-read (getD vs 10 0) d (p + 38) (drop 11 vs) q list .0; list = list }
 
 -- a segment that is not refused is sampled
@@ -94,6 +94,7 @@ size-judged b m a f vs r k at h made w = go r w
   where
     same : refusal (b .place) (gridOf vs) (sampled (sizOf vs .csiz) (sizOf vs .components)) ≡ refusal (b .place) (fieldsGrid f) (f .sampled)
     same = ap₂ (refusal (b .place)) (sym (made .grid)) (sym (made .sampled))
+
     begun :
         sizOutcome (bytesOf b) (b .place)
         ≡ unless (refusal (b .place) (fieldsGrid f) (f .sampled)) (sizOf vs) (a .place)
@@ -101,6 +102,7 @@ size-judged b m a f vs r k at h made w = go r w
         ap (λ (o : Option ℕ). marked (b .place) o (judged (b .place) (meaning sizLayout (bytesOf b) (b .place + 2)))) k
         ∙ ap (judged (b .place)) h
         ∙ ap (λ (o : Option DecodeError). unless o (sizOf vs) (a .place)) same
+
     go : (r : Result SizeData DecodeError) → Weighs (b .place) f r → ReadsSize b a r
     go (Err e) w = begun ∙ ap (λ (o : Option DecodeError). unless o (sizOf vs) (a .place)) w
     go (Ok s) w =
@@ -108,12 +110,13 @@ size-judged b m a f vs r k at h made w = go r w
         let many : getD vs 10 0 ≡ s .csiz = sym (w .2 ∙ made .csiz) in
         let place : b .place + 2 + 38 ≡ s .components = omega (arith, w .3, made .place, at) in
         let list : meaning (componentsLayout (s .csiz)) (bytesOf b) (s .components) ≡ read (drop 11 vs) (a .place) =
-              ap₂ (λ (n p : ℕ). meaning (componentsLayout n) (bytesOf b) p) (sym many) (sym place) ∙ x .list in
+        ap₂ (λ (n p : ℕ). meaning (componentsLayout n) (bytesOf b) p) (sym many) (sym place) ∙ x .list in
         let flag : sampled (s .csiz) (drop 11 vs) ≡ true =
-              ap (λ (n : ℕ). sampled n (drop 11 vs)) (sym many) ∙ sym (made .sampled) ∙ refused-not (b .place) (fieldsGrid f) (f .sampled) (w .0) in
-        ( begun
-          ∙ ap (λ (o : Option DecodeError). unless o (sizOf vs) (a .place)) (w .0)
-          ∙ ap (λ (z : Siz). accepted z (a .place))
-            ( siz-same (gridOf vs) (gridIn s) (getD vs 10 0) (s .csiz) (drop 11 vs) (part (3 * s .csiz) (bytesOf b) (s .components))
-              (sym (w .1 ∙ made .grid)) many (x .bytes ∙ ap₂ (λ (n p : ℕ). part (3 * n) (bytesOf b) p) many place))
-        , component-there (s .csiz) (bytesOf b) (s .components) (drop 11 vs) (a .place) list flag)
+        ap (λ (n : ℕ). sampled n (drop 11 vs)) (sym many) ∙ sym (made .sampled) ∙ refused-not (b .place) (fieldsGrid f) (f .sampled) (w .0) in (
+          begun
+              ∙ ap (λ (o : Option DecodeError). unless o (sizOf vs) (a .place)) (w .0)
+              ∙ ap (λ (z : Siz). accepted z (a .place))
+              (siz-same (gridOf vs) (gridIn s) (getD vs 10 0) (s .csiz) (drop 11 vs) (part (3 * s .csiz) (bytesOf b) (s .components))
+              (sym (w .1 ∙ made .grid)) many (x .bytes ∙ ap₂ (λ (n p : ℕ). part (3 * n) (bytesOf b) p) many place)),
+          component-there (s .csiz) (bytesOf b) (s .components) (drop 11 vs) (a .place) list flag,
+        )

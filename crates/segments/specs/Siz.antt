@@ -80,7 +80,6 @@ pub record MadeComponent (b : Bool) (vs : List ℕ) : Type 0 where
 abbrev pub componentsLayout : ℕ → Layout
 componentsLayout n = times n (fields componentTable)
 
-
 -- no step XRsiz, YRsiz of the first n components is 0
 abbrev pub sampled : ℕ → List ℕ → Bool
 sampled zero cs = true
@@ -111,15 +110,15 @@ pub record Siz : Type 0 where
 
 abbrev pub gridOf : List ℕ → Grid
 gridOf vs =
-    record
-    { xsiz = getD vs 2 0
-    ; ysiz = getD vs 3 0
-    ; xosiz = getD vs 4 0
-    ; yosiz = getD vs 5 0
-    ; xtsiz = getD vs 6 0
-    ; ytsiz = getD vs 7 0
-    ; xtosiz = getD vs 8 0
-    ; ytosiz = getD vs 9 0
+    record {
+      xsiz = getD vs 2 0;
+      ysiz = getD vs 3 0;
+      xosiz = getD vs 4 0;
+      yosiz = getD vs 5 0;
+      xtsiz = getD vs 6 0;
+      ytsiz = getD vs 7 0;
+      xtosiz = getD vs 8 0;
+      ytosiz = getD vs 9 0;
     }
 
 abbrev pub sizOf : List ℕ → Siz
@@ -127,15 +126,15 @@ sizOf vs = record { grid = gridOf vs; csiz = getD vs 10 0; components = drop 11 
 
 abbrev pub fieldsGrid : SizeFields → Grid
 fieldsGrid f =
-    record
-    { xsiz = f .image .xsiz
-    ; ysiz = f .image .ysiz
-    ; xosiz = f .image .xosiz
-    ; yosiz = f .image .yosiz
-    ; xtsiz = f .tiles .xtsiz
-    ; ytsiz = f .tiles .ytsiz
-    ; xtosiz = f .tiles .xtosiz
-    ; ytosiz = f .tiles .ytosiz
+    record {
+      xsiz = f .image .xsiz;
+      ysiz = f .image .ysiz;
+      xosiz = f .image .xosiz;
+      yosiz = f .image .yosiz;
+      xtsiz = f .tiles .xtsiz;
+      ytsiz = f .tiles .ytsiz;
+      xtosiz = f .tiles .xtosiz;
+      ytosiz = f .tiles .ytosiz;
     }
 
 -- what a reader that stands behind the marker makes of the values
@@ -163,9 +162,9 @@ abbrev pub refusal : ℕ → Grid → Bool → Option DecodeError
 refusal at g ok =
     cond (misdimensioned (g .xsiz) (g .xtsiz) (g .xtosiz) || misdimensioned (g .ysiz) (g .ytsiz) (g .ytosiz))
     (Some (Validation (InvalidDimensions at)))
-    ( cond (misplaced (g .xosiz) (g .xtsiz) (g .xtosiz) || misplaced (g .yosiz) (g .ytsiz) (g .ytosiz))
-      (Some (Tile (InvalidOffsets at)))
-      (cond ok (cond (ltb (tilesOf g) (2 ^ 32)) None (Some (Validation (ImageTooLarge at)))) (Some (Validation (InvalidComponentMetadata at)))))
+    (cond (misplaced (g .xosiz) (g .xtsiz) (g .xtosiz) || misplaced (g .yosiz) (g .ytsiz) (g .ytosiz))
+    (Some (Tile (InvalidOffsets at)))
+    (cond ok (cond (ltb (tilesOf g) (2 ^ 32)) None (Some (Validation (ImageTooLarge at)))) (Some (Validation (InvalidComponentMetadata at)))))
 
 -- what stands at a place: an accepted segment, or why not; and the place after
 pub data Outcome : Type 0 where
@@ -191,15 +190,15 @@ sizOutcome d at = marked at (markerAt d at) (judged at (meaning sizLayout d (at 
 -- the fields that an accepted segment hands out
 abbrev pub gridIn : SizeData → Grid
 gridIn s =
-    record
-    { xsiz = s .xsiz
-    ; ysiz = s .ysiz
-    ; xosiz = s .xosiz
-    ; yosiz = s .yosiz
-    ; xtsiz = s .xtsiz
-    ; ytsiz = s .ytsiz
-    ; xtosiz = s .xtosiz
-    ; ytosiz = s .ytosiz
+    record {
+      xsiz = s .xsiz;
+      ysiz = s .ysiz;
+      xosiz = s .xosiz;
+      yosiz = s .yosiz;
+      xtsiz = s .xtsiz;
+      ytsiz = s .ytsiz;
+      xtosiz = s .xtosiz;
+      ytosiz = s .ytosiz;
     }
 
 -- the fields are accepted as they are, or refused

@@ -1,12 +1,12 @@
 ghost use Rattle.layouts.specs.Layouts.{Answers, fields, here};
 ghost use Rattle.segments.specs.Siz.{MadeComponent, MadeComponents, MadeImage, MadeSize, MadeTiles, componentTable, componentsLayout, imageTable, sizLayout, tileTable};
 ghost use mathlib.Core.Path.{_≡_};
+use crate::size_data::ImageFields;
+use crate::size_data::TileFields;
 use faults::segment::SegmentFault;
 use faults::segment::SegmentFaultFromRead;
 use layouts::markers::SIZ;
 use reader::reader::BitReader;
-use crate::size_data::ImageFields;
-use crate::size_data::TileFields;
 
 /// The most bits that a sample may have.
 pub(crate) const MAX_PRECISION: u8 = 31;

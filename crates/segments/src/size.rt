@@ -44,10 +44,14 @@ fn accept(fields: SizeFields, place: usize) -> Result<SizeData, DecodeError>
 {
     let image = fields.image;
     let tiles = fields.tiles;
-    if dimensions_refused(image.xsiz, tiles.xtsiz, tiles.xtosiz) || dimensions_refused(image.ysiz, tiles.ytsiz, tiles.ytosiz) {
+    if dimensions_refused(image.xsiz, tiles.xtsiz, tiles.xtosiz)
+        || dimensions_refused(image.ysiz, tiles.ytsiz, tiles.ytosiz)
+    {
         return Err(DecodeError::Validation(ValidationError::InvalidDimensions { place }));
     }
-    if offsets_refused(image.xosiz, tiles.xtsiz, tiles.xtosiz) || offsets_refused(image.yosiz, tiles.ytsiz, tiles.ytosiz) {
+    if offsets_refused(image.xosiz, tiles.xtsiz, tiles.xtosiz)
+        || offsets_refused(image.yosiz, tiles.ytsiz, tiles.ytosiz)
+    {
         return Err(DecodeError::Tile(TileError::InvalidOffsets { place }));
     }
     if !fields.sampled {

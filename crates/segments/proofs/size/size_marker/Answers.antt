@@ -18,11 +18,11 @@ returns c =
     let d : m .«data» .now ≡ b .«data» .now = ap (λ (s : RefT (List ℕ)). s .now) (f .same) in
     let at : m .place ≡ b .place + 2 = f .reads .1 in
     let h : meaning sizLayout (b .«data» .now) (b .place + 2) ≡ read (valuesOf (here sizLayout m)) (c .size-fields .last .reader .place) =
-          ap₂ (λ (s : List ℕ) (p : ℕ). meaning sizLayout s p) (sym d) (sym at) ∙ g .answers .0 in
-    record
-    { reads =
-        size-judged b m (c .size-fields .last .reader) (c .in-Continue-fields .fields) (valuesOf (here sizLayout m)) (c .accept .result)
-        (f .reads .0 ∙ ap Some (c .if-branch-ne-SIZ .left)) at h (g .answers .1)
-        (subst (λ (n : ℕ). Weighs n (c .in-Continue-fields .fields) (c .accept .result)) (c .offset-place .ensures) (c .accept .ensures))
-    ; same = search needs
+    ap₂ (λ (s : List ℕ) (p : ℕ). meaning sizLayout s p) (sym d) (sym at) ∙ g .answers .0 in
+    record {
+      reads =
+          size-judged b m (c .size-fields .last .reader) (c .in-Continue-fields .fields) (valuesOf (here sizLayout m)) (c .accept .result)
+          (f .reads .0 ∙ ap Some (c .if-branch-ne-SIZ .left)) at h (g .answers .1)
+          (subst (λ (n : ℕ). Weighs n (c .in-Continue-fields .fields) (c .accept .result)) (c .offset-place .ensures) (c .accept .ensures));
+      same = search needs;
     }

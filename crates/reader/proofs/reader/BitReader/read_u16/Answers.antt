@@ -11,16 +11,17 @@ index-bytes-1 c = let e = c .in-Continue-bytes .ensures tt .reads in omega (arit
 pub returns : need.returns
 returns c =
     let e = c .in-Continue-bytes .ensures tt .reads in
-    record
-    { reads =
-        ( e .0
-        , part-word
-          (c .args .self .now .«data» .now)
-          (c .in-Continue-bytes .bytes .now)
-          (c .args .self .now .place)
-          _
-          (e .1 .0)
-          (c .from-be-bytes .ensures)
-        , e .2)
-    ; same = c .in-Continue-bytes .ensures tt .same
+    record {
+      reads = (
+        e .0,
+        part-word
+            (c .args .self .now .«data» .now)
+            (c .in-Continue-bytes .bytes .now)
+            (c .args .self .now .place)
+            _
+            (e .1 .0)
+            (c .from-be-bytes .ensures),
+        e .2,
+      );
+      same = c .in-Continue-bytes .ensures tt .same;
     }
