@@ -1,4 +1,4 @@
--- The bytes of a part of a list. Assumes nothing.
+-- The bytes of a part of a list.
 use mathlib.Core.List.{List}
 use mathlib.Core.Path.{_≡_, ap, _∙_}
 use Prim.Native.Nat.{ℕ, _+_, _*_, _<_, _≤_}
@@ -20,14 +20,11 @@ part-at d s p n k h e = ap (λ (x : List ℕ). getD x k 0) e ∙ getD-take n (dr
 pub part-first : (d s : List ℕ) (p n : ℕ) → 0 < n → s ≡ take n (drop p d) → getD s 0 0 ≡ byteAt d p
 part-first d s p n h e = part-at d s p n 0 h e ∙ ap (λ (k : ℕ). getD d k 0) (add-zero p)
 
-pub part-word : (d s : List ℕ) (p v : ℕ) → s ≡ take 2 (drop p d) → v ≡ getD s 0 0 * 256 + getD s 1 0 → v ≡ wordAt d p
-part-word d s p v e w =
-    omega (arith, part-first d s p 2 (lit< tt) e, part-at d s p 2 1 (lit< tt) e)
+pub part-word : (d s : List ℕ) (p : ℕ) → s ≡ take 2 (drop p d) → wordAt s 0 ≡ wordAt d p
+part-word d s p e = omega (arith, part-first d s p 2 (lit< tt) e, part-at d s p 2 1 (lit< tt) e)
 
-pub part-long :
-    (d s : List ℕ) (p v : ℕ) → s ≡ take 4 (drop p d) → v ≡ getD s 0 0 * 16777216 + getD s 1 0 * 65536 + getD s 2 0 * 256 + getD s 3 0
-    → v ≡ longAt d p
-part-long d s p v e w =
+pub part-long : (d s : List ℕ) (p : ℕ) → s ≡ take 4 (drop p d) → longAt s 0 ≡ longAt d p
+part-long d s p e =
     omega (
       arith,
       part-first d s p 4 (lit< tt) e,

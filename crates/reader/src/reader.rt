@@ -1,10 +1,26 @@
-ghost use Rattle.reader.specs.Bytes.{IsByte, IsLong, IsPartOf, IsWord, markerAt};
+ghost use Rattle.reader.specs.Bytes.{IsByte, IsLong, IsPartOf, IsWord, longAt, markerAt, wordAt};
 ghost use Rattle.reader.specs.Reads.{Peeks, Reads, ReadsMarker, Tails, bytesOf};
 ghost use lib.Dec.{leb};
 ghost use lib.ListN.{length};
 ghost use mathlib.Core.Path.{_≡_};
 use faults::decode::MarkerError;
 use faults::segment::ReadFault;
+
+// The number in two bytes.
+fn word(bytes: &[u8]) -> u16
+    requires { ⌜ length (now bytes) ≡ 2 ⌝ }
+    ensures { λ r. ⌜ r ≡ wordAt (now (bytes .entry)) 0 ⌝ }
+{
+    u16::from_be_bytes([bytes[0], bytes[1]])
+}
+
+// The number in four bytes.
+fn long(bytes: &[u8]) -> u32
+    requires { ⌜ length (now bytes) ≡ 4 ⌝ }
+    ensures { λ r. ⌜ r ≡ longAt (now (bytes .entry)) 0 ⌝ }
+{
+    u32::from_be_bytes([bytes[0], bytes[1], bytes[2], bytes[3]])
+}
 
 /// A place in a codestream, which may lie behind its end.
 #[derive(Clone, Copy)]
@@ -26,7 +42,8 @@ impl<'a> BitReader<'a> {
     pub fn offset(&self) -> usize
         ensures { λ r. ⌜ r ≡ now (self .entry) .place ⌝ }
     {
-        self.place
+        let BitReader { place, .. } = self;
+        *place
     }
 
     /// Whether no byte is left.
@@ -120,7 +137,7 @@ impl<'a> BitReader<'a> {
         ensures same { λ _. ⌜ now (self .exit) .«data» ≡ now (self .entry) .«data» ⌝ }
     {
         let bytes = self.read_bytes(2)?;
-        Ok(u16::from_be_bytes([bytes[0], bytes[1]]))
+        Ok(word(bytes))
     }
 
     /// The number in the next four bytes.
@@ -129,7 +146,7 @@ impl<'a> BitReader<'a> {
         ensures same { λ _. ⌜ now (self .exit) .«data» ≡ now (self .entry) .«data» ⌝ }
     {
         let bytes = self.read_bytes(4)?;
-        Ok(u32::from_be_bytes([bytes[0], bytes[1], bytes[2], bytes[3]]))
+        Ok(long(bytes))
     }
 
     /// The code byte of the marker that stands here, or None.
