@@ -14,19 +14,23 @@ use Rattle.reader.specs.Bytes.{byteAt, wordAt, longAt}
 use Rattle.reader.specs.Reads.{bytesOf}
 use Rattle.reader.specs.declared.reader.BitReader.{BitReader}
 
--- how many bytes a field has
+-- how many bytes a field has: a number of one, two or four, or a run of any number of bytes
 pub data Width : Type 0 where
   one two four : Width
+  run : ℕ → Width
 
 abbrev pub size : Width → ℕ
 size one = 1
 size two = 2
 size four = 4
+size (run n) = n
 
+-- a number is its own value; a run of bytes stands for the place where it begins
 abbrev pub valueAt : Width → List ℕ → ℕ → ℕ
 valueAt one d p = byteAt d p
 valueAt two d p = wordAt d p
 valueAt four d p = longAt d p
+valueAt (run n) d p = p
 
 -- a field: its width, and whether a value is admitted behind the values of the fields before it in its table
 pub record Field : Type 0 where
