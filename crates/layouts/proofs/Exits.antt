@@ -16,3 +16,9 @@ pub failed-exit :
     {V : Type 0} {m : ℕ} (R : Reading) (is : V → List ℕ → Type 0) (a : BitReader) (r : Result V (SegmentFault m)) (x e : SegmentFault m)
     → R ≡ failed (e .cause) (a .place) → r ≡ Err x → x ≡ e → Answers R is a r
 failed-exit R is a r x e f b c = rw b (rw c f)
+
+-- a value that is made of what was read
+pub read-exit :
+    {V : Type 0} (R : Reading) (is : V → List ℕ → Type 0) (v : V) (vs : List ℕ) (q : ℕ) → R ≡ read vs q → is v vs
+    → (R ≡ read (valuesOf R) q) × is v (valuesOf R)
+read-exit R is v vs q e h = rw e (refl, h)

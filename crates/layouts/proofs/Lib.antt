@@ -1,3 +1,4 @@
 pub mod Exits
 pub mod Tables
 pub mod Times
+pub mod Laws

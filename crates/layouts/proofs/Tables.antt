@@ -8,7 +8,7 @@ use native.Mathlib.Nat.{add-assoc, add-zero}
 use native.Mathlib.Omega.{arith}
 use lib.Dec.{leb}
 use lib.ListN.{length}
-use Rattle.std.proofs.shelf.Tests.{cases-bool, leb-true}
+use Rattle.std.proofs.shelf.Tests.{cases-bool, leb-true, le-leb}
 use Rattle.layouts.specs.Layouts.{Field, Reading, read, failed, reading, size, valueAt, valuesAt, total, Reads-all}
 
 pub never : {X : Type 0} (R : Reading) (vs : List ℕ) (q : ℕ) (e : _) (p : ℕ) → R ≡ failed e p → R ≡ read vs q → X
@@ -63,3 +63,12 @@ first-admitted f fs d p ws vs q e =
 
 pub reads-all : Reads-all
 reads-all fs d p vs q e = table-read fs d p [] vs q e
+
+-- a first field that is there and admitted
+pub first-read :
+    (f : Field) (fs : List Field) (d : List ℕ) (p v : ℕ) (ws : List ℕ) → p + size (f .width) ≤ length d → v ≡ valueAt (f .width) d p
+    → f .admits ws v ≡ true → reading (f ∷ fs) d p ws ≡ reading fs d (p + size (f .width)) (ws ++ v ∷ [])
+first-read f fs d p v ws there is admitted =
+    let t : leb (p + size (f .width)) (length d) ≡ true = le-leb _ _ there in
+    let a : f .admits ws (valueAt (f .width) d p) ≡ true = ap (λ (x : ℕ). f .admits ws x) (sym is) ∙ admitted in
+    rw (t, a) (ap (λ (x : ℕ). reading fs d (p + size (f .width)) (ws ++ x ∷ [])) (sym is))

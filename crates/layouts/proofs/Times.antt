@@ -4,7 +4,7 @@ use mathlib.Core.Path.{_≡_, refl, sym, ap, _∙_}
 use Prim.Native.Nat.{ℕ, zero, suc, _+_, _-_, _<_, _≤_}
 use native.Mathlib.Omega.{arith}
 use Rattle.faults.specs.declared.segment.Cause.{Cause}
-use Rattle.layouts.specs.Layouts.{Layout, Reading, read, failed, prefixed, followed, meaning, times}
+use Rattle.layouts.specs.Layouts.{Layout, Reading, read, failed, prefixed, followed, meaning, behind, times}
 use Rattle.layouts.proofs.Tables.{never}
 
 pub prefixed-none : (R : Reading) → prefixed [] R ≡ R
@@ -51,6 +51,12 @@ pub run-all : (l : Layout) (n : ℕ) (d : List ℕ) (p0 k p : ℕ) (r : Run l n 
 run-all l n d p0 k p r le =
     let z : n - k ≡ 0 = omega arith in
     r .rest ∙ ap (λ (m : ℕ). prefixed (r .vs) (meaning (times m l) d p)) z ∙ ap (λ (vs : List ℕ). read vs p) (append-nil (r .vs))
+
+-- two sections that are read, joined
+pub joined :
+    (l : Layout) (k : List ℕ → Layout) (d : List ℕ) (p : ℕ) (ws : List ℕ) (m : ℕ) (us : List ℕ) (q : ℕ) → meaning l d p ≡ read ws m
+    → meaning (k ws) d m ≡ read us q → meaning (behind l k) d p ≡ read (ws ++ us) q
+joined l k d p ws m us q e f = rw (e, f) refl
 
 -- what is read in two sections, section by section
 pub record Split (R : Reading) (k : List ℕ → ℕ → Reading) (vs : List ℕ) (q : ℕ) : Type 0 where
