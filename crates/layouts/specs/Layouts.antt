@@ -43,6 +43,9 @@ field w a = record { width = w; admits = a }
 abbrev pub any : List ℕ → ℕ → Bool
 any vs v = true
 
+abbrev pub atLeast : ℕ → List ℕ → ℕ → Bool
+atLeast m vs v = leb m v
+
 -- a layout: a table of fields; or one layout and behind it another, which the first one's values shape
 pub data Layout : Type 0 where
   fields : List Field → Layout

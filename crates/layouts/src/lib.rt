@@ -2,6 +2,7 @@
 ghost use Rattle.layouts.specs.Laws.{Layouts-read};
 ghost use Rattle.layouts.specs.Layouts.{Reads-all};
 
+pub mod index;
 pub mod markers;
 
 /// Every layout is read field by field. An accepted reading gives the values at the places that the widths add up to, and ends behind the

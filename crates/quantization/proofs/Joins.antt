@@ -7,14 +7,15 @@ use native.Mathlib.Omega.{arith}
 use lib.ListN.{length, getD}
 use Rattle.std.proofs.shelf.Tests.{le-leb}
 use Rattle.reader.specs.Bytes.{byteAt, wordAt}
-use Rattle.layouts.specs.Layouts.{read, meaning, field, fields, one, two, size, valueAt, valuesOf}
+use Rattle.layouts.specs.Layouts.{read, meaning, field, fields, one, two, size, valueAt, valuesOf, atLeast}
 use Rattle.layouts.proofs.Exits.{read-exit}
 use Rattle.layouts.proofs.Tables.{first-read}
 use Rattle.layouts.proofs.Times.{joined}
 use Rattle.quantization.specs.declared.info.QuantizationInfo.{QuantizationInfo}
 use Rattle.quantization.specs.declared.info.QuantizationStyle.{QuantizationStyle}
 use Rattle.quantization.specs.declared.info.StepSize.{StepSize}
-use Rattle.quantization.specs.Quantization.{styled, styleOf, stepCount, stepsLayout, parametersLayout, kept, atLeast, qcdLayout, indexWidth, indexed, indexTable, qccLayout, MadeSteps, MadeParameters, MadeQcd, MadeQcc}
+use Rattle.layouts.specs.Indices.{indexWidth, indexed}
+use Rattle.quantization.specs.Quantization.{styled, styleOf, stepCount, stepsLayout, parametersLayout, kept, qcdLayout, indexTable, qccLayout, MadeSteps, MadeParameters, MadeQcd, MadeQcc}
 
 parameters-read :
     (n : ℕ) (d : List ℕ) (p sq m : ℕ) (us : List ℕ) (q : ℕ) → p + 1 ≤ length d → sq ≡ byteAt d p → m ≡ p + 1 → sq % 32 ≤ 2

@@ -5,8 +5,8 @@ use mathlib.Core.Path.{_≡_}
 use Prim.Native.Nat.{ℕ, zero, suc, _+_, _-_, _/_, _%_, _<_, _≤_}
 use lib.Dec.{leb, ltb, eqb}
 use lib.ListN.{length, getD, drop}
-use denote.Ref.{RefT}
-use Rattle.layouts.specs.Layouts.{Layout, Width, Field, one, two, any, field, fields, behind, times, size, valueAt}
+use Rattle.layouts.specs.Indices.{indexWidth, indexed}
+use Rattle.layouts.specs.Layouts.{Layout, Width, Field, one, two, any, atLeast, field, fields, behind, times, size}
 use Rattle.std.specs.declared.option.Option.{Option}
 use Rattle.std.specs.declared.option.Option.the-variants.{Some, None}
 use Rattle.quantization.specs.declared.info.QuantizationStyle.{QuantizationStyle}
@@ -88,26 +88,12 @@ parametersLayout n = behind (fields (field one styled ∷ [])) (λ vs. stepsLayo
 abbrev pub MadeParameters : QuantizationInfo → List ℕ → Type 0
 MadeParameters i vs = Made i (getD vs 0 0) (drop 1 vs)
 
-abbrev pub atLeast : ℕ → List ℕ → ℕ → Bool
-atLeast m vs v = leb m v
-
 -- QCD behind its marker (Table A.27): Lqcd; Sqcd, SPqcd
 abbrev pub qcdLayout : Layout
 qcdLayout = behind (fields (field two (atLeast 3) ∷ [])) (λ vs. parametersLayout (getD vs 0 0 - 3))
 
 abbrev pub MadeQcd : QuantizationInfo → List ℕ → Type 0
 MadeQcd i vs = Made i (getD vs 1 0) (drop 2 vs)
-
--- a component index has one byte where Csiz is below 257, and two elsewhere
-abbrev pub indexWidth : ℕ → Width
-indexWidth csiz = cond (ltb csiz 257) one two
-
-abbrev pub IsIndex : ℕ → RefT (List ℕ) → ℕ → ℕ → Type 0
-IsIndex csiz s p v = v ≡ valueAt (indexWidth csiz) (s .now) p
-
--- in a main header, a component index is below Csiz
-abbrev pub indexed : Bool → ℕ → List ℕ → ℕ → Bool
-indexed main csiz vs v = cond main (ltb v csiz) true
 
 -- Lqcc, Cqcc
 abbrev pub indexTable : Bool → ℕ → List Field

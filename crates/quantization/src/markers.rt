@@ -1,13 +1,13 @@
-ghost use Rattle.layouts.specs.Layouts.{Answers, here, size};
-ghost use Rattle.quantization.specs.Quantization.{IsIndex, MadeQcc, MadeQcd, indexWidth, qccLayout, qcdLayout};
-ghost use Rattle.reader.specs.Reads.{Reads};
+ghost use Rattle.layouts.specs.Layouts.{Answers, here};
+ghost use Rattle.quantization.specs.Quantization.{MadeQcc, MadeQcd, qccLayout, qcdLayout};
 ghost use mathlib.Core.Bool.{false, true};
 ghost use mathlib.Core.Path.{_≡_};
 use crate::info::QuantizationInfo;
 use crate::parameters::quantization_parameters;
-use faults::segment::ReadFault;
 use faults::segment::SegmentFault;
 use faults::segment::SegmentFaultFromRead;
+use layouts::index::component_index;
+use layouts::index::index_size;
 use layouts::markers::QCC;
 use layouts::markers::QCD;
 use reader::reader::BitReader;
@@ -24,25 +24,6 @@ pub fn qcd_marker(reader: &mut BitReader<'_>) -> Result<QuantizationInfo, Segmen
     }
     let info = quantization_parameters(reader, length - 3)?;
     Ok(info)
-}
-
-// How many bytes a component index has.
-fn index_size(csiz: u16) -> u16
-    ensures { λ r. ⌜ r ≡ size (indexWidth csiz) ⌝ }
-{
-    if csiz < 257 { 1 } else { 2 }
-}
-
-fn component_index(reader: &mut BitReader<'_>, csiz: u16) -> Result<u16, ReadFault>
-    ensures reads { λ r. ⌜ Reads (size (indexWidth csiz)) (IsIndex csiz) (now (reader .entry)) (now (reader .exit)) r ⌝ }
-    ensures same { λ _. ⌜ now (reader .exit) .«data» ≡ now (reader .entry) .«data» ⌝ }
-{
-    if csiz < 257 {
-        let index = reader.read_byte()?;
-        Ok(u16::from(index))
-    } else {
-        reader.read_u16()
-    }
 }
 
 fn qcc_segment(

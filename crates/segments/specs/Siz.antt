@@ -18,7 +18,7 @@ use Rattle.reader.specs.Reads.{bytesOf}
 use Rattle.reader.specs.declared.reader.BitReader.{BitReader}
 use Rattle.rect.specs.Spans.{reaching}
 use lib.ListN.{drop, getD, length}
-use Rattle.layouts.specs.Layouts.{Layout, Reading, read, failed, meaning, field, fields, behind, times, one, two, four, any, Field}
+use Rattle.layouts.specs.Layouts.{Layout, Reading, read, failed, meaning, field, fields, behind, times, one, two, four, any, atLeast, Field}
 use Rattle.segments.specs.declared.size_data.ImageFields.{ImageFields}
 use Rattle.segments.specs.declared.size_data.TileFields.{TileFields}
 use Rattle.segments.specs.declared.fields.SizeFields.{SizeFields}
@@ -46,9 +46,6 @@ pub record MadeImage (i : ImageFields) (vs : List ℕ) : Type 0 where
   pub ysiz : i .ysiz ≡ getD vs 3 0
   pub xosiz : i .xosiz ≡ getD vs 4 0
   pub yosiz : i .yosiz ≡ getD vs 5 0
-
-abbrev pub atLeast : ℕ → List ℕ → ℕ → Bool
-atLeast m vs v = leb m v
 
 -- XTsiz, YTsiz, XTOsiz, YTOsiz, Csiz
 abbrev pub tileTable : List Field

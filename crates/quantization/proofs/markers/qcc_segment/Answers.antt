@@ -4,7 +4,7 @@ use mathlib.Core.List.{[], _∷_}
 use mathlib.Core.Path.{_≡_, refl, ap, _∙_}
 use Prim.Native.Nat.{_+_}
 use native.Mathlib.Omega.{arith}
-use Rattle.quantization.specs.Quantization.{indexed}
+use Rattle.layouts.specs.Indices.{indexed}
 use Rattle.quantization.proofs.Joins.{qcc-exit}
 use Rattle.quantization.proofs.markers.qcc_segment.Needs as need
 
