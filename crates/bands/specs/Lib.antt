@@ -1,0 +1,4 @@
+pub mod SubBands
+pub mod Asked
+pub mod Laws
+pub mod Worked

@@ -1,0 +1,6 @@
+pub mod Kept
+pub mod BlockLaws
+pub mod BandBlocks
+pub mod Cover
+pub mod Worked
+pub mod Numbered

@@ -1,0 +1,4 @@
+pub mod CodeBlocks
+pub mod Components
+pub mod Asked
+pub mod Worked

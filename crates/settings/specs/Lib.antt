@@ -1,0 +1,3 @@
+pub mod Inheritance
+pub mod Rows
+pub mod StepSizes
