@@ -1,0 +1,4 @@
+pub mod Ppm
+pub mod Ppt
+pub mod Segment
+pub mod Sot
