@@ -12,11 +12,11 @@ use Rattle.std.proofs.shelf.Tests.{le-leb}
 use Rattle.reader.specs.Bytes.{byteAt, wordAt}
 use Rattle.reader.specs.Reads.{bytesOf}
 use Rattle.reader.specs.declared.reader.BitReader.{BitReader}
-use Rattle.layouts.specs.Layouts.{Reading, read, meaning, reading, followed, field, two, run, any, valuesOf, here}
+use Rattle.layouts.specs.Layouts.{Reading, read, meaning, reading, followed, field, two, run, any, valuesOf, here, atLeast}
 use Rattle.layouts.proofs.Tables.{table-read, first-inside}
 use Rattle.layouts.proofs.Times.{followed-read}
 use Rattle.layouts.proofs.Exits.{is-read}
-use Rattle.packed.specs.Segment.{atLeast, segmentLayout, cut, Inside, MadeSegment}
+use Rattle.packed.specs.Segment.{segmentLayout, cut, Inside, MadeSegment}
 use Rattle.packed.specs.Ppm.{packetsLayout, insideLayout, endingAt, ppmReading, packetsOf, packetsFrom, packetsLeft, restLayout, MadePpm}
 use Rattle.packed.specs.declared.segment.SegmentReader.{SegmentReader}
 use Rattle.packed.specs.declared.ppm.PpmMarkerData.{PpmMarkerData}

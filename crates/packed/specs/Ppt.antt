@@ -5,8 +5,7 @@ use Prim.Native.Nat.{ℕ, _-_}
 use lib.ListN.{getD}
 use Rattle.reader.specs.Bytes.{IsPartOf}
 use Rattle.reader.specs.declared.reader.BitReader.{BitReader}
-use Rattle.layouts.specs.Layouts.{Layout, field, fields, behind, one, two, run, any}
-use Rattle.packed.specs.Segment.{atLeast}
+use Rattle.layouts.specs.Layouts.{Layout, field, fields, behind, one, two, run, any, atLeast}
 use Rattle.packed.specs.declared.ppt.PptMarkerData.{PptMarkerData}
 
 -- Lppt, Zppt, and behind them the bytes that the length leaves

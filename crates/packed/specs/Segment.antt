@@ -1,9 +1,7 @@
 -- A marker segment taken as a whole: its length, which counts its own two bytes, and the bytes behind it (T.800 A.1).
-use mathlib.Core.Bool.{Bool}
 use mathlib.Core.List.{List, [], _∷_}
 use mathlib.Core.Path.{_≡_}
 use Prim.Native.Nat.{ℕ, _+_, _-_, _<_, _≤_}
-use lib.Dec.{leb}
 use lib.ListN.{getD, take}
 use denote.Ref.{at-last}
 use Rattle.std.specs.declared.result.Result.{Result}
@@ -11,11 +9,8 @@ use Rattle.std.specs.declared.result.Result.the-variants.{Ok, Err}
 use Rattle.faults.specs.declared.segment.ReadFault.{ReadFault}
 use Rattle.reader.specs.Reads.{bytesOf}
 use Rattle.reader.specs.declared.reader.BitReader.{BitReader}
-use Rattle.layouts.specs.Layouts.{Layout, Reading, read, failed, field, fields, behind, two, run, any}
+use Rattle.layouts.specs.Layouts.{Layout, Reading, read, failed, field, fields, behind, two, run, any, atLeast}
 use Rattle.packed.specs.declared.segment.SegmentReader.{SegmentReader}
-
-abbrev pub atLeast : ℕ → List ℕ → ℕ → Bool
-atLeast m vs v = leb m v
 
 abbrev pub segmentLayout : Layout
 segmentLayout = behind (fields (field two (atLeast 2) ∷ [])) (λ vs. fields (field (run (getD vs 0 0 - 2)) any ∷ []))
