@@ -1,4 +1,6 @@
 //! The resolutions of a component tile and their sub-bands (T.800 B.5).
+#![tactic(auto)]
+
 pub mod decomposition;
 mod edges;
 pub mod numbers;

@@ -1,4 +1,6 @@
 //! Code-blocks (T.800 B.7), and what all code-blocks of a sub-band, a tile and a component are together.
+#![tactic(auto)]
+
 pub mod cells;
 pub mod component;
 pub mod grid;

@@ -1,4 +1,6 @@
 //! The coding style marker segments COD and COC.
+#![tactic(auto)]
+
 ghost use Rattle.coding.specs.Places.{CocPlaces, CodPlaces};
 
 pub mod coc;

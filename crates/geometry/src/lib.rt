@@ -1,4 +1,6 @@
 //! The geometry of a codestream: the image area and its tiles, and each component's part of them (T.800 Annex B).
+#![tactic(auto)]
+
 pub mod axis;
 mod columns;
 mod components;

@@ -1,4 +1,6 @@
 //! Resolutions, sub-bands, precincts and code-blocks at the corners of their ranges: each answer on a line.
+#![tactic(auto)]
+
 use bands::decomposition::Decomposition;
 use bands::resolution::Resolution;
 use bands::sub_band::SubBandType;

@@ -1,4 +1,5 @@
 //! What stands at a place of a main header or a tile-part header: a segment with its contents, or what ends the header.
+#![tactic(auto)]
 
 mod contents;
 pub mod found;

@@ -1,4 +1,6 @@
 //! Marker segments as tables of fields: what reading one comes to, for every table.
+#![tactic(auto)]
+
 ghost use Rattle.layouts.specs.Laws.{LayoutsRead};
 ghost use Rattle.layouts.specs.Layouts.{ReadsAll};
 

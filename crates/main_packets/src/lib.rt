@@ -1,4 +1,5 @@
 //! The packets of a main header's PPM segments, in the order of Zppm.
+#![tactic(auto)]
 
 ghost use Rattle.main_packets.specs.Packets.{PacketAt, rows_of};
 ghost use Rattle.main_packets.specs.Steps.{InHeader, InSegment, Nth};

@@ -1,4 +1,5 @@
 //! What the segments of a main header make of each component's settings, and whether each has the step sizes that it needs.
+#![tactic(auto)]
 
 ghost use Rattle.main_settings.specs.Settled.{ComponentSettled, ComponentTested, ComponentsTested, RowApplied, settings_of};
 ghost use Rattle.settings.specs.Inheritance.{applied};

@@ -1,4 +1,5 @@
 //! What a main header says, from its bytes alone: every refusal in its order, and what an accepted header holds.
+#![tactic(auto)]
 
 pub mod laws;
 mod passed;

@@ -1,4 +1,5 @@
 //! The ordered list at two kinds of records, on cases worked out by hand.
+#![tactic(auto)]
 
 use ordered::Sequenced;
 

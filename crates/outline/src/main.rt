@@ -1,5 +1,7 @@
 //! Prints what a store would file of a picture: the image area, the tile grid, the components and the first tiles; or the fault that
 //! stops it. The codestream comes on standard input.
+#![tactic(auto)]
+
 ghost use Rattle.std.specs.Prelude.{◌≤◌, length, IfOk};
 
 use faults::decode::DecodeError;

@@ -1,4 +1,6 @@
 //! SIZ at its limits and one past them, and cut at every byte: each answer on a line.
+#![tactic(auto)]
+
 use faults::decode::{DecodeError, MarkerError};
 use faults::segment::Cause;
 use picture::outline::read_outline;

@@ -1,4 +1,5 @@
 //! The segments SOT, PPM and PPT, and those that are skipped by their length.
+#![tactic(auto)]
 
 pub mod ppm;
 pub mod ppt;

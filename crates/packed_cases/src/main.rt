@@ -1,5 +1,7 @@
 //! SOT, PPM, PPT and segments that are skipped, whole, at their limits and cut at every byte: each answer on a line. The segments stand behind
 //! three other bytes, so that places count from the codestream's start.
+#![tactic(auto)]
+
 use faults::segment::Cause;
 use layouts::markers::COM;
 use packed::ppm::{PpmMarkerData, ppm_marker};

@@ -1,4 +1,6 @@
 //! The precincts of a resolution (T.800 B.6), with their places on the reference grid (B.12.1.3).
+#![tactic(auto)]
+
 pub mod axis;
 mod direction;
 pub mod grid;

@@ -1,4 +1,6 @@
 //! The quantization of a component: the QCD and QCC marker segments (T.800 A.6.4 and A.6.5).
+#![tactic(auto)]
+
 ghost use Rattle.quantization.specs.Quantization.{KeptEach};
 
 pub mod info;

@@ -1,4 +1,6 @@
 //! Rectangles of whole numbers: what they cover, what two of them share, and what it is to cut one up.
+#![tactic(auto)]
+
 ghost use Rattle.std.specs.Prelude.{◌≡◌};
 ghost use Rattle.rect.specs.Rects.{region, shared, Sized};
 ghost use Rattle.rect.specs.Spans.{area, holds, rect, span, width};

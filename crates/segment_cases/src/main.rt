@@ -1,5 +1,7 @@
 //! COD and QCD of real and made headers, each limit and one past it, and segments cut at every byte: each answer on a line.
 //! The headers were written by OpenJPEG 2.5.0 and Grok 10.0.5.
+#![tactic(auto)]
+
 use coding::coc::{coc_marker, tile_coc_marker};
 use coding::cod::cod_marker;
 use coding::parameters::CodingStyleDefault;

@@ -1,4 +1,5 @@
 //! Marker segments of a codestream.
+#![tactic(auto)]
 
 mod fields;
 pub mod size;

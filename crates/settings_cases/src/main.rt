@@ -1,4 +1,6 @@
 //! Which segment sets a component's levels and flags, and step sizes at their limits: each answer on a line.
+#![tactic(auto)]
+
 use bands::sub_band::SubBandType;
 use coding::coc::coc_marker;
 use coding::cod::cod_marker;

@@ -1,5 +1,7 @@
 //! Main headers, tile-part headers, component settings and packets: each answer on a line. Standard input holds the codestreams and what is
 //! asked of them, as cases.py writes it.
+#![tactic(auto)]
+
 ghost use Rattle.std.specs.Prelude.{◌≤◌, length, IfOk};
 
 use faults::decode::{DecodeError, MarkerError};

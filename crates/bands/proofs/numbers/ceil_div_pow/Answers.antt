@@ -9,5 +9,5 @@ returns-then-k-ge32 c = c.min.ensures ∙ sym (ceil_far c.args.a c.args.k (omega
 
 pub returns : goal.returns
 returns c =
-    let e = c.two-to.ensures in
-    c.div-ceil.ensures ∙ ceil_code c.args.a c.two-to.result (omega (arith, pow_pos c.args.k)) ∙ ap (ceil c.args.a) e
+    let e = c.two_to.ensures in
+    c.div_ceil.ensures ∙ ceil_code c.args.a c.two_to.result (omega (arith, pow_pos c.args.k)) ∙ ap (ceil c.args.a) e

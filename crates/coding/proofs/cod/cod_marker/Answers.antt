@@ -4,13 +4,13 @@ use Rattle.coding.proofs.cod.cod_marker.Goals as goal
 
 pub returns : goal.returns
 returns c =
-    let h = c.in-ok-head.ensures.answers in
-    let s = c.in-ok-parameters.ensures.answers in
+    let h = c.in_ok-head.ensures.answers in
+    let s = c.in_ok-parameters.ensures.answers in
     let e : c.cod-fields.new.reader.«data».now ≡ c.args.reader.now.«data».now = cc in
     record {
       answers =
           cod_answered c.args.reader.now.«data».now c.cod-fields.new.reader.«data».now c.args.reader.now.place
-          c.cod-fields.new.reader.place c.coding-style-parameters.new.reader.place c.in-ok-head.head _ _ _ e h.0 h.1
+          c.cod-fields.new.reader.place c.coding-style-parameters.new.reader.place c.in_ok-head.head _ _ _ e h.0 h.1
           s.0 s.1 refl refl refl refl;
       same = search rules;
     }

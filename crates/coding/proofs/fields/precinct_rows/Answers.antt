@@ -8,10 +8,10 @@ use Rattle.coding.proofs.fields.precinct_rows.Goals as goal
 pub loop-k-init : goal.loop-k-init
 loop-k-init g c = (rows_none c.args.count c.args.reader.now.«data».now c.args.reader.now.place, refl)
 
-pub returns-in-err-size : goal.returns-in-err-size
-returns-in-err-size g c =
+pub returns-in_err-size : goal.returns-in_err-size
+returns-in_err-size g c =
     let p = err_from_is_err_and c.from-residual.result c.from-residual.ensures.1 in
-    let f = c.in-err-size.ensures in
+    let f = c.in_err-size.ensures in
     let e : c.loop-k.reader.«data».now ≡ c.args.reader.now.«data».now = cc in
     let all =
     rows_failed c.args.count c.args.reader.now.«data».now c.args.reader.now.place c.loop-k.k c.loop-k.reader.place
@@ -23,7 +23,7 @@ returns-in-err-size g c =
 
 pub loop-k-preserved : goal.loop-k-preserved
 loop-k-preserved g c =
-    let f = c.in-ok-size.ensures in
+    let f = c.in_ok-size.ensures in
     let e : c.loop-k.reader.«data».now ≡ c.args.reader.now.«data».now = cc in (
       rows_more
           c.args.count
@@ -34,13 +34,13 @@ loop-k-preserved g c =
           c.loop-k.widths
           c.loop-k.heights
           _
-          c.in-ok-size.size
+          c.in_ok-size.size
           _
           c.loop-k.invariant.0
           (omega arith)
           (omega arith)
-          c.in-ok-size.size.narrow
-          c.in-ok-size.size.low
+          c.in_ok-size.size.narrow
+          c.in_ok-size.size.low
           (rw e at f.answers.0)
           (rw e at f.answers.1),
       search rules,

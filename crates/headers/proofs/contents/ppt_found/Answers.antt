@@ -8,12 +8,12 @@ use Rattle.headers.proofs.contents.ppt_found.Goals as goal
 
 pub returns : goal.returns
 returns c =
-    let f = c.in-ok-ppt.ensures in
+    let f = c.in_ok-ppt.ensures in
     let m = f.answers.1 in
     record {
       found =
           as_found standing.ppt 97 (here ppt_layout c.args.reader.now)
-          (Ppt c.in-ok-ppt.ppt.zppt c.in-ok-ppt.ppt.place (length c.in-ok-ppt.ppt.«data».now))
+          (Ppt c.in_ok-ppt.ppt.zppt c.in_ok-ppt.ppt.place (length c.in_ok-ppt.ppt.«data».now))
           c.ppt-marker.new.reader f.answers.0 (refl, m.zppt, m.place, m.size);
       same = f.same;
     }

@@ -9,18 +9,18 @@ use Rattle.headers.proofs.contents.tile_qcc_found.Goals as goal
 
 pub returns : goal.returns
 returns c =
-    let f = c.in-ok-qcc.ensures in
+    let f = c.in_ok-qcc.ensures in
     record {
       found =
           image_found c.args.csiz c.args.place standing.qcc 93 (here (qcc_layout false c.args.csiz) c.args.reader.now)
-          (Sets (Qcc c.in-ok-qcc.qcc.0 c.in-ok-qcc.qcc.1)) c.tile-qcc-marker.new.reader f.answers.0
+          (Sets (Qcc c.in_ok-qcc.qcc.0 c.in_ok-qcc.qcc.1)) c.tile-qcc-marker.new.reader f.answers.0
           (omega (arith, f.answers.1.index)) (refl, f.answers.1);
       same = f.same;
     }
 
 pub returns-then-qcc-csiz : goal.returns-then-qcc-csiz
 returns-then-qcc-csiz c =
-    let f = c.in-ok-qcc.ensures in
+    let f = c.in_ok-qcc.ensures in
     record {
       found =
           image_refused c.args.csiz c.args.place standing.qcc 93 (here (qcc_layout false c.args.csiz) c.args.reader.now)

@@ -9,7 +9,7 @@ use Rattle.headers.proofs.main_header.main_segment.Goals as goal
 
 pub returns-in-Cod : goal.returns-in-Cod
 returns-in-Cod c =
-    let f = c.in-ok-read-marker.ensures in
+    let f = c.in_ok-read-marker.ensures in
     let d = c.args.reader.now.«data».now in
     let p = c.args.reader.now.place in
     record {
@@ -22,7 +22,7 @@ returns-in-Cod c =
 
 pub returns-in-Coc : goal.returns-in-Coc
 returns-in-Coc c =
-    let f = c.in-ok-read-marker.ensures in
+    let f = c.in_ok-read-marker.ensures in
     let d = c.args.reader.now.«data».now in
     let p = c.args.reader.now.place in
     record {
@@ -35,7 +35,7 @@ returns-in-Coc c =
 
 pub returns-in-Qcc : goal.returns-in-Qcc
 returns-in-Qcc c =
-    let f = c.in-ok-read-marker.ensures in
+    let f = c.in_ok-read-marker.ensures in
     let d = c.args.reader.now.«data».now in
     let p = c.args.reader.now.place in
     record {

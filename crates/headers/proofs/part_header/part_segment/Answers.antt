@@ -13,7 +13,7 @@ use Rattle.headers.proofs.part_header.part_segment.Goals as goal
 
 pub returns-in-Cod : goal.returns-in-Cod
 returns-in-Cod c =
-    let f = c.in-ok-read-marker.ensures in
+    let f = c.in_ok-read-marker.ensures in
     let d = c.args.reader.now.«data».now in
     let p = c.args.reader.now.place in
     record {
@@ -26,7 +26,7 @@ returns-in-Cod c =
 
 pub returns-in-Coc : goal.returns-in-Coc
 returns-in-Coc c =
-    let f = c.in-ok-read-marker.ensures in
+    let f = c.in_ok-read-marker.ensures in
     let d = c.args.reader.now.«data».now in
     let p = c.args.reader.now.place in
     record {
@@ -40,7 +40,7 @@ returns-in-Coc c =
 
 pub returns-in-Qcc : goal.returns-in-Qcc
 returns-in-Qcc c =
-    let f = c.in-ok-read-marker.ensures in
+    let f = c.in_ok-read-marker.ensures in
     let d = c.args.reader.now.«data».now in
     let p = c.args.reader.now.place in
     record {
@@ -54,7 +54,7 @@ returns-in-Qcc c =
 
 pub returns-in-Ppt : goal.returns-in-Ppt
 returns-in-Ppt c =
-    let f = c.in-ok-read-marker.ensures in
+    let f = c.in_ok-read-marker.ensures in
     let d = c.args.reader.now.«data».now in
     let p = c.args.reader.now.place in
     let unless : ℕ → Standing → Standing = λ q s. cond c.args.packets (ends (refused (Tile (PpmPptConflict q)))) s in

@@ -4,20 +4,20 @@ use Rattle.faults.specs.declared.decode.DecodeError.{DecodeError}
 use Rattle.main_survey.proofs.Runs.{Run, run_turn, run_over, run_sot, run_lost, run_refused}
 use Rattle.main_survey.proofs.segments.main_segments.Goals as goal
 
-pub returns-in-err-found : goal.returns-in-err-found
-returns-in-err-found c =
+pub returns-in_err-found : goal.returns-in_err-found
+returns-in_err-found c =
     let e : c.loop-found.reader.«data».now ≡ c.args.reader.now.«data».now = cc in
     let p = err_from_is_err_and c.from-residual.result c.from-residual.ensures.1 in
     run_refused c.args.reader.now.«data».now c.loop-found.reader.«data».now c.args.csiz c.args.room c.args.reader.now.place
-    c.loop-found.reader.place c.loop-found.cod c.loop-found.qcd c.loop-found.packets c.in-err-found.field-0.0
-    c.from-residual.result c.loop-found.invariant.0 e c.in-err-found.ensures.found (p.1 ∙ ap (λ (x : DecodeError). Err x) p.2)
+    c.loop-found.reader.place c.loop-found.cod c.loop-found.qcd c.loop-found.packets c.in_err-found.field-0.0
+    c.from-residual.result c.loop-found.invariant.0 e c.in_err-found.ensures.found (p.1 ∙ ap (λ (x : DecodeError). Err x) p.2)
 
 pub returns-then-count-room : goal.returns-then-count-room
 returns-then-count-room c =
     let e : c.loop-found.reader.«data».now ≡ c.args.reader.now.«data».now = cc in
     run_over c.args.reader.now.«data».now c.loop-found.reader.«data».now c.args.csiz c.args.room c.args.reader.now.place
-    c.loop-found.reader.place c.loop-found.cod c.loop-found.qcd c.loop-found.packets c.in-ok-found.found c.in-Stands.segment
-    c.next-main.new.reader c.packets-of-count.result c.loop-found.invariant.0 e c.in-ok-found.ensures.found c.in-Stands.is
+    c.loop-found.reader.place c.loop-found.cod c.loop-found.qcd c.loop-found.packets c.in_ok-found.found c.in-Stands.segment
+    c.next-main.new.reader c.packets-of-count.result c.loop-found.invariant.0 e c.in_ok-found.ensures.found c.in-Stands.is
     c.packets-of-count.ensures c.if-count-room.true
 
 -- what one turn comes to
@@ -30,27 +30,27 @@ turn :
 turn c =
     let e : c.loop-found.reader.«data».now ≡ c.args.reader.now.«data».now = cc in
     run_turn c.args.reader.now.«data».now c.loop-found.reader.«data».now c.args.csiz c.args.room c.args.reader.now.place
-    c.loop-found.reader.place c.loop-found.cod c.loop-found.qcd c.loop-found.packets c.in-ok-found.found c.in-Stands.segment
+    c.loop-found.reader.place c.loop-found.cod c.loop-found.qcd c.loop-found.packets c.in_ok-found.found c.in-Stands.segment
     c.next-main.new.reader c.is-cod-cod.result c.is-qcd-qcd.result c.packets-of-count.result c.loop-found.invariant.0 e
-    c.in-ok-found.ensures.found c.in-Stands.is c.is-cod-cod.ensures c.is-qcd-qcd.ensures c.packets-of-count.ensures
+    c.in_ok-found.ensures.found c.in-Stands.is c.is-cod-cod.ensures c.is-qcd-qcd.ensures c.packets-of-count.ensures
     c.if-count-room.false
 
 pub loop-found-smaller : goal.loop-found-smaller
 loop-found-smaller c = let t = turn c in omega (arith, t.1, t.2)
 
 pub loop-found-preserved : goal.loop-found-preserved
-loop-found-preserved c = let s = c.in-ok-found.ensures.same in ((turn c).0, cc)
+loop-found-preserved c = let s = c.in_ok-found.ensures.same in ((turn c).0, cc)
 
 pub returns-in-Ends : goal.returns-in-Ends
 returns-in-Ends c =
     let e : c.loop-found.reader.«data».now ≡ c.args.reader.now.«data».now = cc in
     run_sot c.args.reader.now.«data».now c.loop-found.reader.«data».now c.args.csiz c.args.room c.args.reader.now.place
-    c.loop-found.reader.place c.loop-found.cod c.loop-found.qcd c.loop-found.packets c.offset.result c.in-ok-found.found
-    c.next-main.new.reader c.loop-found.invariant.0 e c.in-ok-found.ensures.found c.in-Ends.is c.offset.ensures
+    c.loop-found.reader.place c.loop-found.cod c.loop-found.qcd c.loop-found.packets c.offset.result c.in_ok-found.found
+    c.next-main.new.reader c.loop-found.invariant.0 e c.in_ok-found.ensures.found c.in-Ends.is c.offset.ensures
 
 pub returns-in-NoMarker : goal.returns-in-NoMarker
 returns-in-NoMarker c =
     let e : c.loop-found.reader.«data».now ≡ c.args.reader.now.«data».now = cc in
     run_lost c.args.reader.now.«data».now c.loop-found.reader.«data».now c.args.csiz c.args.room c.args.reader.now.place
-    c.loop-found.reader.place c.loop-found.cod c.loop-found.qcd c.loop-found.packets c.offset-place.result c.in-ok-found.found
-    c.next-main.new.reader c.loop-found.invariant.0 e c.in-ok-found.ensures.found c.in-NoMarker.is c.offset-place.ensures
+    c.loop-found.reader.place c.loop-found.cod c.loop-found.qcd c.loop-found.packets c.offset-place.result c.in_ok-found.found
+    c.next-main.new.reader c.loop-found.invariant.0 e c.in_ok-found.ensures.found c.in-NoMarker.is c.offset-place.ensures

@@ -6,40 +6,40 @@ use Rattle.main_survey.specs.declared.room.MainSurvey.{MainSurvey}
 use Rattle.main_survey.proofs.Verdicts.{begun, main_passed, main_refused}
 use Rattle.main_survey.proofs.survey.survey_main.Goals as goal
 
-pub returns-in-err-passed : goal.returns-in-err-passed
-returns-in-err-passed c =
+pub returns-in_err-passed : goal.returns-in_err-passed
+returns-in_err-passed c =
     let d = c.args.codestream.now in
-    let p = err_from_is_err_and c.from-residual-in-err-passed.result c.from-residual-in-err-passed.ensures.1 in
-    let f = c.in-err-passed.field-0.0 in
-    let is : c.from-residual-in-err-passed.result ≡ Err f = p.1 ∙ ap (λ (x : DecodeError). Err x) p.2 in
+    let p = err_from_is_err_and c.from-residual-in_err-passed.result c.from-residual-in_err-passed.ensures.1 in
+    let f = c.in_err-passed.field-0.0 in
+    let is : c.from-residual-in_err-passed.result ≡ Err f = p.1 ∙ ap (λ (x : DecodeError). Err x) p.2 in
     let g =
-    begun d c.args.place c.args.room c.new-reader.result c.size-marker.new.reader c.in-ok-size.size
+    begun d c.args.place c.args.room c.new-reader.result c.size-marker.new.reader c.in_ok-size.size
     c.num-tiles-tiles.result c.offset-segments.result c.holds.result (ap (λ (s : Bor (List ℕ)). s.now) c.new-reader.ensures.of)
-    c.new-reader.ensures.at c.in-ok-size.ensures.reads c.in-ok-size.ensures.same c.num-tiles-tiles.ensures
+    c.new-reader.ensures.at c.in_ok-size.ensures.reads c.in_ok-size.ensures.same c.num-tiles-tiles.ensures
     c.holds.ensures c.if-not-holds.false c.offset-segments.ensures in
     record {
       surveyed =
           subst (λ (r : Result MainSurvey DecodeError). ComesTo d c.args.place c.args.room (header_of d r)) (sym is)
-          (main_refused d c.args.place c.args.room c.size-marker.new.reader c.in-ok-size.size c.offset-segments.result f g c.in-err-passed.ensures);
+          (main_refused d c.args.place c.args.room c.size-marker.new.reader c.in_ok-size.size c.offset-segments.result f g c.in_err-passed.ensures);
       counted = subst (λ (r : Result MainSurvey DecodeError). CountedIn d r) (sym is) tt;
     }
 
-pub returns-in-err-test-at-sot : goal.returns-in-err-test-at-sot
-returns-in-err-test-at-sot c =
+pub returns-in_err-test-at-sot : goal.returns-in_err-test-at-sot
+returns-in_err-test-at-sot c =
     let d = c.args.codestream.now in
-    let p = err_from_is_err_and c.from-residual-in-err-test-at-sot.result c.from-residual-in-err-test-at-sot.ensures.1 in
-    let f = c.in-err-test-at-sot.field-0.0 in
-    let is : c.from-residual-in-err-test-at-sot.result ≡ Err f = p.1 ∙ ap (λ (x : DecodeError). Err x) p.2 in
+    let p = err_from_is_err_and c.from-residual-in_err-test-at-sot.result c.from-residual-in_err-test-at-sot.ensures.1 in
+    let f = c.in_err-test-at-sot.field-0.0 in
+    let is : c.from-residual-in_err-test-at-sot.result ≡ Err f = p.1 ∙ ap (λ (x : DecodeError). Err x) p.2 in
     let g =
-    begun d c.args.place c.args.room c.new-reader.result c.size-marker.new.reader c.in-ok-size.size
+    begun d c.args.place c.args.room c.new-reader.result c.size-marker.new.reader c.in_ok-size.size
     c.num-tiles-tiles.result c.offset-segments.result c.holds.result (ap (λ (s : Bor (List ℕ)). s.now) c.new-reader.ensures.of)
-    c.new-reader.ensures.at c.in-ok-size.ensures.reads c.in-ok-size.ensures.same c.num-tiles-tiles.ensures
+    c.new-reader.ensures.at c.in_ok-size.ensures.reads c.in_ok-size.ensures.same c.num-tiles-tiles.ensures
     c.holds.ensures c.if-not-holds.false c.offset-segments.ensures in
     record {
       surveyed =
           subst (λ (r : Result MainSurvey DecodeError). ComesTo d c.args.place c.args.room (header_of d r)) (sym is)
-          ((main_passed d c.args.place c.args.room c.size-marker.new.reader c.in-ok-size.size c.offset-segments.result
-          c.in-ok-passed.passed g c.in-ok-passed.ensures).1 f c.in-err-test-at-sot.ensures);
+          ((main_passed d c.args.place c.args.room c.size-marker.new.reader c.in_ok-size.size c.offset-segments.result
+          c.in_ok-passed.passed g c.in_ok-passed.ensures).1 f c.in_err-test-at-sot.ensures);
       counted = subst (λ (r : Result MainSurvey DecodeError). CountedIn d r) (sym is) tt;
     }
 
@@ -47,13 +47,13 @@ pub returns : goal.returns
 returns c =
     let d = c.args.codestream.now in
     let g =
-    begun d c.args.place c.args.room c.new-reader.result c.size-marker.new.reader c.in-ok-size.size
+    begun d c.args.place c.args.room c.new-reader.result c.size-marker.new.reader c.in_ok-size.size
     c.num-tiles-tiles.result c.offset-segments.result c.holds.result (ap (λ (s : Bor (List ℕ)). s.now) c.new-reader.ensures.of)
-    c.new-reader.ensures.at c.in-ok-size.ensures.reads c.in-ok-size.ensures.same c.num-tiles-tiles.ensures
+    c.new-reader.ensures.at c.in_ok-size.ensures.reads c.in_ok-size.ensures.same c.num-tiles-tiles.ensures
     c.holds.ensures c.if-not-holds.false c.offset-segments.ensures in
     record {
       surveyed =
-          (main_passed d c.args.place c.args.room c.size-marker.new.reader c.in-ok-size.size c.offset-segments.result
-          c.in-ok-passed.passed g c.in-ok-passed.ensures).0 c.in-ok-test-at-sot.ensures;
+          (main_passed d c.args.place c.args.room c.size-marker.new.reader c.in_ok-size.size c.offset-segments.result
+          c.in_ok-passed.passed g c.in_ok-passed.ensures).0 c.in_ok-test-at-sot.ensures;
       counted = record { tiles = c.num-tiles-tiles.ensures; components = g.components };
     }

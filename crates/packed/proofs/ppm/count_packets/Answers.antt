@@ -9,10 +9,10 @@ use Rattle.packed.proofs.ppm.count_packets.Goals as goal
 pub loop-inside-init : goal.loop-inside-init
 loop-inside-init c = (packed_none _ _, record { stream = refl; end = refl })
 
-pub returns-in-err-packet : goal.returns-in-err-packet
-returns-in-err-packet c =
+pub returns-in_err-packet : goal.returns-in_err-packet
+returns-in_err-packet c =
     let p = err_from_is_err_and c.from-residual.result c.from-residual.ensures.1 in
-    let f = c.in-err-packet.ensures in
+    let f = c.in_err-packet.ensures in
     let all = turn_failed c.args.inside.now c.loop-inside.inside c.loop-inside.count _ _ c.loop-inside.invariant.0 c.loop-inside.invariant.1
     (sym c.loop-inside-test.ensures) f.answers in
     record {
@@ -22,21 +22,21 @@ returns-in-err-packet c =
 
 pub overflow-add-count : goal.overflow-add-count
 overflow-add-count c =
-    let f = c.in-ok-packet.ensures in
-    let fits : Fits w64 c.in-ok-packet.field-0.place = search rules in
-    let t = turn_place c.loop-inside.inside c.in-ok-packet.field-0 _ _ f.answers.0 f.answers.1 in
+    let f = c.in_ok-packet.ensures in
+    let fits : Fits w64 c.in_ok-packet.field-0.place = search rules in
+    let t = turn_place c.loop-inside.inside c.in_ok-packet.field-0 _ _ f.answers.0 f.answers.1 in
     let i = c.loop-inside.invariant.0.fits in
     omega arith
 
 pub loop-inside-smaller : goal.loop-inside-smaller
 loop-inside-smaller c =
-    let t = turn_less c.loop-inside.inside c.packet.new.inside _ c.in-ok-packet.ensures.answers.0 in
-    let e = c.in-ok-packet.ensures.same.end in
+    let t = turn_less c.loop-inside.inside c.packet.new.inside _ c.in_ok-packet.ensures.answers.0 in
+    let e = c.in_ok-packet.ensures.same.end in
     omega arith
 
 pub loop-inside-preserved : goal.loop-inside-preserved
 loop-inside-preserved c =
-    let f = c.in-ok-packet.ensures in (
+    let f = c.in_ok-packet.ensures in (
       turn_more c.args.inside.now c.loop-inside.inside c.packet.new.inside c.loop-inside.count _ c.loop-inside.invariant.0
           c.loop-inside.invariant.1 (sym c.loop-inside-test.ensures) f.answers.0,
       search rules,

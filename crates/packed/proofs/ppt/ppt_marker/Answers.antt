@@ -4,7 +4,7 @@ use Rattle.packed.proofs.ppt.ppt_marker.Goals as goal
 
 pub returns : goal.returns
 returns c =
-    let g = c.in-ok-data.ensures in
+    let g = c.in_ok-data.ensures in
     record {
       answers = (
         search rules,

@@ -7,19 +7,19 @@ use Rattle.part_survey.proofs.survey.survey_tile_part.Goals as goal
 pub returns-in-Closed : goal.returns-in-Closed
 returns-in-Closed c =
     let d = c.args.codestream.now in
-    let f = c.in-ok-start.ensures in
+    let f = c.in_ok-start.ensures in
     let of : c.new-reader.result.«data».now ≡ d = cc in
     let same : c.tile-part-start.new.reader.«data».now ≡ d = cc in
     let at : c.tile-part-start.new.reader.place ≡ c.args.place + 12 = omega (arith, f.behind.0, c.new-reader.ensures.at) in
-    let start : Ok c.in-ok-start.start ≡ start_of d c.args.place c.args.tiles =
+    let start : Ok c.in_ok-start.start ≡ start_of d c.args.place c.args.tiles =
     f.start ∙ ap₂ (λ (s : List ℕ) (p : ℕ). start_of s p c.args.tiles) of c.new-reader.ensures.at in
-    let header : HeaderEnds d c.args.csiz c.args.packets c.args.strict (c.args.place + 12) (Ok c.in-ok-header.header) =
-    rw (same, at) at c.in-ok-header.ensures in
+    let header : HeaderEnds d c.args.csiz c.args.packets c.args.strict (c.args.place + 12) (Ok c.in_ok-header.header) =
+    rw (same, at) at c.in_ok-header.ensures in
     let inside : c.args.place + 12 ≤ length d = rw (at, of) at f.behind.1 in
     record {
       surveyed =
-          part_closed d c.args.place c.args.tiles c.args.csiz c.args.packets c.args.strict c.in-ok-start.start
-          c.in-ok-header.header c.in-Closed.body c.in-Closed.headers c.tile-part-end.result start header c.in-Closed.is
+          part_closed d c.args.place c.args.tiles c.args.csiz c.args.packets c.args.strict c.in_ok-start.start
+          c.in_ok-header.header c.in-Closed.body c.in-Closed.headers c.tile-part-end.result start header c.in-Closed.is
           c.tile-part-end.ensures;
       inside = made_anyway c.tile-part-end.result inside;
     }

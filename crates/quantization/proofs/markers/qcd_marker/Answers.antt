@@ -4,12 +4,12 @@ use Rattle.quantization.proofs.markers.qcd_marker.Goals as goal
 
 pub returns : goal.returns
 returns c =
-    let f = c.in-ok-length.ensures in
-    let h = c.in-ok-info.ensures in
+    let f = c.in_ok-length.ensures in
+    let h = c.in_ok-info.ensures in
     record {
       answers =
           qcd_exit c.args.reader.now.«data».now c.read-u16.new.self.«data».now c.args.reader.now.place
-          c.in-ok-length.length c.read-u16.new.self.place c.quantization-parameters.new.reader.place c.in-ok-info.info
+          c.in_ok-length.length c.read-u16.new.self.place c.quantization-parameters.new.reader.place c.in_ok-info.info
           f.reads.0 f.reads.1 f.reads.2 (omega arith) (cc) h.answers.0 h.answers.1;
       same = search rules;
     }

@@ -4,13 +4,13 @@ use Rattle.quantization.proofs.parameters.quantization_parameters.Goals as goal
 
 pub returns : goal.returns
 returns g c =
-    let f = c.in-ok-sq.ensures in
-    let h = c.in-ok-steps.ensures in
+    let f = c.in_ok-sq.ensures in
+    let h = c.in_ok-steps.ensures in
     record {
       answers =
           parameters_exit c.args.len c.args.reader.now.«data».now c.read-byte.new.self.«data».now c.args.reader.now.place
-          c.in-ok-sq.sq c.read-byte.new.self.place c.step-sizes.new.reader.place c.step-count-count.result
-          c.style-of-style.result c.in-ok-steps.steps f.reads.0 f.reads.1 f.reads.2 (omega arith) (cc)
+          c.in_ok-sq.sq c.read-byte.new.self.place c.step-sizes.new.reader.place c.step-count-count.result
+          c.style-of-style.result c.in_ok-steps.steps f.reads.0 f.reads.1 f.reads.2 (omega arith) (cc)
           c.style-of-style.ensures c.step-count-count.ensures h.answers.0 h.answers.1;
       same = search rules;
     }

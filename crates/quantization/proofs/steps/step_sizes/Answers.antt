@@ -9,10 +9,10 @@ pub loop-k-init : goal.loop-k-init
 loop-k-init g c =
     (stepped_none c.args.style c.args.count c.args.reader.now.«data».now c.args.reader.now.place, refl)
 
-pub returns-in-err-step : goal.returns-in-err-step
-returns-in-err-step g c =
+pub returns-in_err-step : goal.returns-in_err-step
+returns-in_err-step g c =
     let p = err_from_is_err_and c.from-residual.result c.from-residual.ensures.1 in
-    let f = c.in-err-step.ensures in
+    let f = c.in_err-step.ensures in
     let e : c.loop-k.reader.«data».now ≡ c.args.reader.now.«data».now = cc in
     let all =
     stepped_failed c.args.style c.args.count c.args.reader.now.«data».now c.args.reader.now.place c.loop-k.k
@@ -24,10 +24,10 @@ returns-in-err-step g c =
 
 pub loop-k-preserved : goal.loop-k-preserved
 loop-k-preserved g c =
-    let f = c.in-ok-step.ensures in
+    let f = c.in_ok-step.ensures in
     let e : c.loop-k.reader.«data».now ≡ c.args.reader.now.«data».now = cc in (
       stepped_more c.args.style c.args.count c.args.reader.now.«data».now c.args.reader.now.place c.loop-k.k
-          c.loop-k.reader.place c.loop-k.steps _ c.in-ok-step.step _ _ c.loop-k.invariant.0 (omega arith) (rw e at f.answers.0)
+          c.loop-k.reader.place c.loop-k.steps _ c.in_ok-step.step _ _ c.loop-k.invariant.0 (omega arith) (rw e at f.answers.0)
           (rw e at f.answers.1) (search rules),
       search rules,
     )

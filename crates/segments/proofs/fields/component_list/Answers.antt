@@ -8,10 +8,10 @@ use Rattle.segments.proofs.fields.component_list.Goals as goal
 pub loop-k-init : goal.loop-k-init
 loop-k-init c = (listed_none c.args.count c.args.reader.now.«data».now c.args.reader.now.place, refl)
 
-pub returns-in-err-sampled : goal.returns-in-err-sampled
-returns-in-err-sampled c =
+pub returns-in_err-sampled : goal.returns-in_err-sampled
+returns-in_err-sampled c =
     let p = err_from_is_err_and c.from-residual.result c.from-residual.ensures.1 in
-    let f = c.in-err-sampled.ensures in
+    let f = c.in_err-sampled.ensures in
     let e : c.loop-k.reader.«data».now ≡ c.args.reader.now.«data».now = cc in
     let all =
     listed_failed c.args.count c.args.reader.now.«data».now c.args.reader.now.place c.loop-k.k c.loop-k.reader.place
@@ -23,10 +23,10 @@ returns-in-err-sampled c =
 
 pub loop-k-preserved : goal.loop-k-preserved
 loop-k-preserved c =
-    let f = c.in-ok-sampled.ensures in
+    let f = c.in_ok-sampled.ensures in
     let e : c.loop-k.reader.«data».now ≡ c.args.reader.now.«data».now = cc in (
       listed_more c.args.count c.args.reader.now.«data».now c.args.reader.now.place c.loop-k.k c.loop-k.reader.place
-          c.loop-k.sampled c.in-ok-sampled.field-0 _ _ c.loop-k.invariant.0 (omega arith) (rw e at f.answers.0) (rw e at f.answers.1),
+          c.loop-k.sampled c.in_ok-sampled.field-0 _ _ c.loop-k.invariant.0 (omega arith) (rw e at f.answers.0) (rw e at f.answers.1),
       search rules,
     )
 

@@ -5,9 +5,9 @@ use Rattle.segments.proofs.fields.size_fields.Goals as goal
 pub returns : goal.returns
 returns c =
     let d = c.args.reader.now.«data».now in
-    let f = c.in-ok-image.ensures in
-    let g = c.in-ok-tiles.ensures in
-    let h = c.in-ok-sampled.ensures in
+    let f = c.in_ok-image.ensures in
+    let g = c.in_ok-tiles.ensures in
+    let h = c.in_ok-sampled.ensures in
     let e : c.image-fields.new.reader.«data».now ≡ d = cc in
     let e' : c.tile-fields.new.reader.«data».now ≡ d = cc in
     record {
@@ -22,7 +22,7 @@ returns c =
               f.answers.0 (rw e at g.answers.0);
           sampled =
               components_sampled d c.args.reader.now.place c.image-fields.new.reader.place c.tile-fields.new.reader.place
-              c.component-list.new.reader.place c.in-ok-tiles.tiles.csiz _ _ _ _ f.answers.0 (rw e at g.answers.0)
+              c.component-list.new.reader.place c.in_ok-tiles.tiles.csiz _ _ _ _ f.answers.0 (rw e at g.answers.0)
               f.answers.1.count (rw e at g.answers.1.count) (rw e at g.answers.1.csiz) (rw e' at h.answers.0) (rw e' at h.answers.1);
         },
       );

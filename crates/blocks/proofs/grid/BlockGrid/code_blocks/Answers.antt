@@ -15,16 +15,16 @@ returns c =
     let p = g.precincts in
     let x = across p in
     let y = down p in
-    let s = c.in-ok-whole.ensures in
-    let q = c.in-ok-precinct.ensures in
+    let s = c.in_ok-whole.ensures in
+    let q = c.in_ok-precinct.ensures in
     let e = block_exponent_of g.xcb x in
     let f = block_exponent_of g.ycb y in
-    let w = c.block_exponent_of.ensures.value in
+    let w = c.block_exponent.ensures.value in
     let h = c.block-exponent-2.ensures.value in
     let listed = get_or (precincts x y) c.args.k blank in
     let band = sub_band x y c.args.band in
     let shares =
-    shared_by c.in-ok-precinct.precinct listed (region c.in-ok-whole.whole) band (region c.cut.result) c.cut.ensures q.listed
+    shared_by c.in_ok-precinct.precinct listed (region c.in_ok-whole.whole) band (region c.cut.result) c.cut.ensures q.listed
     s.1 in
     record {
       has_band = s.0;
@@ -33,6 +33,6 @@ returns c =
       shares = shares;
       width = w;
       height = h;
-      same_list = same_blocks c.block_exponent_of.result e c.block-exponent-2.result f (region c.cut.result) (meets (region listed.rect) band) w h shares;
+      same_list = same_blocks c.block_exponent.result e c.block-exponent-2.result f (region c.cut.result) (meets (region listed.rect) band) w h shares;
       cut_up = cut_up g.xcb g.ycb x y c.args.band (together p) q.accepted s.0;
     }

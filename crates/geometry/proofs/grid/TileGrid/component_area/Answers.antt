@@ -9,7 +9,7 @@ pub returns : goal.returns
 returns c =
     let g = c.args.self.now in
     let s = c.args.sampling in
-    let e = c.component-image.ensures in
+    let e = c.component_image.ensures in
     record {
       edges = e;
       number = ap area e;

@@ -7,8 +7,8 @@ loop-record-init g c = (progress_none _ _ _ _ (omega (arith, c.args.self.now.ok)
 
 pub loop-record-preserved : goal.loop-record-preserved
 loop-record-preserved g c = (
-  progress_more _ _ _ _ _ _ _ _ _ c.record-item.result c.loop-record.invariant.0 c.loop-record-test.true c.record-item.is c.in-ok-insert.ensures.result,
-  c.in-ok-insert.ensures.lent ∙ c.loop-record.invariant.1,
+  progress_more _ _ _ _ _ _ _ _ _ c.record-item.result c.loop-record.invariant.0 c.loop-record-test.true c.record-item.is c.in_ok-insert.ensures.result,
+  c.in_ok-insert.ensures.lent ∙ c.loop-record.invariant.1,
 )
 
 pub returns : goal.returns

@@ -3,15 +3,15 @@ use Rattle.reader.specs.Bytes.{IsByte}
 use Rattle.packed.proofs.Cuts.{cut_less, cut_reads, cut_byte}
 use Rattle.packed.proofs.segment.SegmentReader.read_byte.Goals as goal
 
-pub returns-in-err-room : goal.returns-in-err-room
-returns-in-err-room c =
+pub returns-in_err-room : goal.returns-in_err-room
+returns-in_err-room c =
     let h : length (take c.args.self.now.end c.args.self.now.reader.«data».now) < c.args.self.now.reader.place + 1 =
-    cut_less c.args.self.now.end c.args.self.now.reader.«data».now (c.args.self.now.reader.place + 1) c.in-err-room.ensures.0 in
+    cut_less c.args.self.now.end c.args.self.now.reader.«data».now (c.args.self.now.reader.place + 1) c.in_err-room.ensures.0 in
     search rules
 
 pub returns : goal.returns
 returns c =
     record {
-      reads = cut_reads 1 IsByte IsByte c.args.self.now (record { reader = c.read-byte.new.self; end = c.args.self.now.end }) c.read-byte.result c.in-ok-room.ensures (λ v e. cut_byte c.args.self.now.end c.args.self.now.reader.«data».now c.args.self.now.reader.place v c.in-ok-room.ensures e) c.read-byte.ensures.reads;
+      reads = cut_reads 1 IsByte IsByte c.args.self.now (record { reader = c.read-byte.new.self; end = c.args.self.now.end }) c.read-byte.result c.in_ok-room.ensures (λ v e. cut_byte c.args.self.now.end c.args.self.now.reader.«data».now c.args.self.now.reader.place v c.in_ok-room.ensures e) c.read-byte.ensures.reads;
       same = search rules;
     }

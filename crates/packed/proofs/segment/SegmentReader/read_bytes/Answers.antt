@@ -3,15 +3,15 @@ use Rattle.reader.specs.Bytes.{IsPartOf}
 use Rattle.packed.proofs.Cuts.{cut_less, cut_reads}
 use Rattle.packed.proofs.segment.SegmentReader.read_bytes.Goals as goal
 
-pub returns-in-err-room : goal.returns-in-err-room
-returns-in-err-room c =
+pub returns-in_err-room : goal.returns-in_err-room
+returns-in_err-room c =
     let h : length (take c.args.self.now.end c.args.self.now.reader.«data».now) < c.args.self.now.reader.place + c.args.len =
-    cut_less c.args.self.now.end c.args.self.now.reader.«data».now (c.args.self.now.reader.place + c.args.len) c.in-err-room.ensures.0 in
+    cut_less c.args.self.now.end c.args.self.now.reader.«data».now (c.args.self.now.reader.place + c.args.len) c.in_err-room.ensures.0 in
     search rules
 
 pub returns : goal.returns
 returns c =
     record {
-      reads = cut_reads c.args.len (IsPartOf c.args.len) (λ _. IsPartOf c.args.len c.args.self.now.reader.«data») c.args.self.now (record { reader = c.read-bytes.new.self; end = c.args.self.now.end }) c.read-bytes.result c.in-ok-room.ensures (λ v e. e) c.read-bytes.ensures.reads;
+      reads = cut_reads c.args.len (IsPartOf c.args.len) (λ _. IsPartOf c.args.len c.args.self.now.reader.«data») c.args.self.now (record { reader = c.read-bytes.new.self; end = c.args.self.now.end }) c.read-bytes.result c.in_ok-room.ensures (λ v e. e) c.read-bytes.ensures.reads;
       same = search rules;
     }

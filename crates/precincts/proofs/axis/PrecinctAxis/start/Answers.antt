@@ -6,7 +6,7 @@ use Rattle.precincts.proofs.axis.PrecinctAxis.start.Goals as goal
 pub returns-then-k-eq0 : goal.returns-then-k-eq0
 returns-then-k-eq0 c =
     let a = c.args.self in
-    c.first_start_of.ensures ∙ place_first (direction a) a.stepped c.args.k (omega arith) c.requires
+    c.first_start.ensures ∙ place_first (direction a) a.stepped c.args.k (omega arith) c.requires
 
 pub returns : goal.returns
 returns c =

@@ -3,16 +3,16 @@ use Rattle.reader.proofs.Parts.{part_length, part_long}
 use Rattle.reader.proofs.reader.BitReader.read_u32.Goals as goal
 
 pub long-requires : goal.long-requires
-long-requires c = let e = c.in-ok-bytes.ensures.reads in part_length _ _ _ 4 e.0 e.1.0
+long-requires c = let e = c.in_ok-bytes.ensures.reads in part_length _ _ _ 4 e.0 e.1.0
 
 pub returns : goal.returns
 returns c =
-    let e = c.in-ok-bytes.ensures.reads in
+    let e = c.in_ok-bytes.ensures.reads in
     record {
       reads = (
         e.0,
-        c.long.ensures ∙ part_long c.args.self.now.«data».now c.in-ok-bytes.bytes.now c.args.self.now.place e.1.0,
+        c.long.ensures ∙ part_long c.args.self.now.«data».now c.in_ok-bytes.bytes.now c.args.self.now.place e.1.0,
         e.2,
       );
-      same = c.in-ok-bytes.ensures.same;
+      same = c.in_ok-bytes.ensures.same;
     }
