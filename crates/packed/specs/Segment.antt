@@ -1,6 +1,5 @@
 -- A marker segment taken as a whole: its length, which counts its own two bytes, and the bytes behind it (T.800 A.1).
 use Rattle.std.specs.Prelude.{◌≡◌, ℕ, ◌+◌, ◌-◌, ◌<◌, ◌≤◌, List, [], ◌∷◌, take, Ok, Err, Result, slice_index}
-use denote.Ref.{at_last}
 use Rattle.faults.specs.declared.segment.ReadFault.{ReadFault}
 use Rattle.reader.specs.Reads.{bytes_of}
 use Rattle.reader.specs.declared.reader.BitReader.{BitReader}
@@ -17,7 +16,7 @@ place_after (failed e q) = q
 
 -- a reader inside a segment reads the codestream as it is cut at the segment's end
 abbrev pub cut : SegmentReader → BitReader
-cut s = record { «data» = at_last s.reader.«data» (take s.end (bytes_of s.reader)); place = s.reader.place }
+cut s = record { «data» = record s.reader.«data» { now = take s.end (bytes_of s.reader) }; place = s.reader.place }
 
 -- only the place moves
 pub record Inside (b a : SegmentReader) : Type 0 where

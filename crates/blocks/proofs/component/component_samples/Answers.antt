@@ -7,5 +7,5 @@ pub returns : goal.returns
 returns c =
     let g = c.args.tiles.now in
     let s = c.args.sampling in
-    let e = c.samples-in.ensures in
+    let e = c.samples_in.ensures in
     record { number = e; blocks_cover = subst (λ (n : ℕ). BlocksCover g s n) (sym e) (blocks_cover g s) }

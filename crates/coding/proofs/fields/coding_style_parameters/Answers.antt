@@ -6,12 +6,12 @@ pub returns : goal.returns
 returns g c =
     let b = c.in_ok-block.ensures.answers in
     let r = c.in_ok-rows.ensures.answers in
-    let e : c.block-fields.new.reader.«data».now ≡ c.args.reader.now.«data».now = cc in
+    let e : c.block_fields.new.reader.«data».now ≡ c.args.reader.now.«data».now = cc in
     record {
       answers =
-          parameters_answered c.args.flags.raw c.precinct-sizes.result c.args.reader.now.«data».now
-          c.block-fields.new.reader.«data».now c.args.reader.now.place c.block-fields.new.reader.place
-          c.precinct-rows.new.reader.place c.in_ok-block.block _ _ _ e c.precinct-sizes.ensures b.0 b.1 r.0 r.1
+          parameters_answered c.args.flags.raw c.precinct_sizes.result c.args.reader.now.«data».now
+          c.block_fields.new.reader.«data».now c.args.reader.now.place c.block_fields.new.reader.place
+          c.precinct_rows.new.reader.place c.in_ok-block.block _ _ _ e c.precinct_sizes.ensures b.0 b.1 r.0 r.1
           refl refl refl refl refl;
       same = search rules;
     }

@@ -11,7 +11,7 @@ loop-inside-init c = (packed_none _ _, record { stream = refl; end = refl })
 
 pub returns-in_err-packet : goal.returns-in_err-packet
 returns-in_err-packet c =
-    let p = err_from_is_err_and c.from-residual.result c.from-residual.ensures.1 in
+    let p = err_from_is_err_and c.from_residual.result c.from_residual.ensures.1 in
     let f = c.in_err-packet.ensures in
     let all = turn_failed c.args.inside.now c.loop-inside.inside c.loop-inside.count _ _ c.loop-inside.invariant.0 c.loop-inside.invariant.1
     (sym c.loop-inside-test.ensures) f.answers in
@@ -20,8 +20,8 @@ returns-in_err-packet c =
       same = search rules;
     }
 
-pub overflow-add-count : goal.overflow-add-count
-overflow-add-count c =
+pub overflow_add-count : goal.overflow_add-count
+overflow_add-count c =
     let f = c.in_ok-packet.ensures in
     let fits : Fits w64 c.in_ok-packet.field-0.place = search rules in
     let t = turn_place c.loop-inside.inside c.in_ok-packet.field-0 _ _ f.answers.0 f.answers.1 in

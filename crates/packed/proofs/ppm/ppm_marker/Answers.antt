@@ -8,8 +8,8 @@ returns c =
     let z = c.in_ok-zppm.ensures in
     let g = c.in_ok-count.ensures in
     record {
-      answers = ppm_read c.args.reader.now c.take-segment.new.reader c.in_ok-inside.inside c.read-byte.new.self _
-          (record { zppm = c.in_ok-zppm.zppm; count = c.in_ok-count.count; packets = c.read-byte.new.self }) _
+      answers = ppm_read c.args.reader.now c.take_segment.new.reader c.in_ok-inside.inside c.read_byte.new.self _
+          (record { zppm = c.in_ok-zppm.zppm; count = c.in_ok-count.count; packets = c.read_byte.new.self }) _
           f.answers.0 f.answers.1 z.reads.0 z.reads.1 z.reads.2 z.same g.answers.0 g.answers.1 refl;
       same = search rules;
     }

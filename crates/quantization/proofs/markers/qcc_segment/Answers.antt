@@ -11,10 +11,10 @@ returns c =
     let a : indexed c.args.main c.args.csiz (c.in_ok-length.length ∷ []) c.in_ok-index.index ≡ true = search rules in
     record {
       answers =
-          qcc_exit c.args.main c.args.csiz c.args.reader.now.«data».now c.read-u16.new.self.«data».now
-          c.component-index.new.reader.«data».now c.args.reader.now.place c.in_ok-length.length c.read-u16.new.self.place
-          c.in_ok-index.index c.component-index.new.reader.place (c.index-size-least.result + 3)
-          c.quantization-parameters.new.reader.place c.in_ok-info.info f.reads.0 f.reads.1 f.reads.2 (cc) e.reads.0
-          e.reads.1 e.reads.2 (cc) (ap (λ n. n + 3) c.index-size-least.ensures) c.if-length-least.false a h.answers.0 h.answers.1;
+          qcc_exit c.args.main c.args.csiz c.args.reader.now.«data».now c.read_u16.new.self.«data».now
+          c.component_index.new.reader.«data».now c.args.reader.now.place c.in_ok-length.length c.read_u16.new.self.place
+          c.in_ok-index.index c.component_index.new.reader.place (c.index_size-least.result + 3)
+          c.quantization_parameters.new.reader.place c.in_ok-info.info f.reads.0 f.reads.1 f.reads.2 (cc) e.reads.0
+          e.reads.1 e.reads.2 (cc) (ap (λ n. n + 3) c.index_size-least.ensures) c.if-length-least.false a h.answers.0 h.answers.1;
       same = search rules;
     }

@@ -11,14 +11,14 @@ loop-k-init g c =
 
 pub returns-in_err-step : goal.returns-in_err-step
 returns-in_err-step g c =
-    let p = err_from_is_err_and c.from-residual.result c.from-residual.ensures.1 in
+    let p = err_from_is_err_and c.from_residual.result c.from_residual.ensures.1 in
     let f = c.in_err-step.ensures in
     let e : c.loop-k.reader.«data».now ≡ c.args.reader.now.«data».now = cc in
     let all =
     stepped_failed c.args.style c.args.count c.args.reader.now.«data».now c.args.reader.now.place c.loop-k.k
     c.loop-k.reader.place c.loop-k.steps _ _ c.loop-k.invariant.0 (omega arith) (rw e at f.answers) in
     record {
-      answers = failed_exit _ (MadeSteps c.args.style c.args.count) c.step-size.new.reader _ p.0 _ all p.1 p.2;
+      answers = failed_exit _ (MadeSteps c.args.style c.args.count) c.step_size.new.reader _ p.0 _ all p.1 p.2;
       same = search rules;
     }
 

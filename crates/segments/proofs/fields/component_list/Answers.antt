@@ -10,14 +10,14 @@ loop-k-init c = (listed_none c.args.count c.args.reader.now.«data».now c.args.
 
 pub returns-in_err-sampled : goal.returns-in_err-sampled
 returns-in_err-sampled c =
-    let p = err_from_is_err_and c.from-residual.result c.from-residual.ensures.1 in
+    let p = err_from_is_err_and c.from_residual.result c.from_residual.ensures.1 in
     let f = c.in_err-sampled.ensures in
     let e : c.loop-k.reader.«data».now ≡ c.args.reader.now.«data».now = cc in
     let all =
     listed_failed c.args.count c.args.reader.now.«data».now c.args.reader.now.place c.loop-k.k c.loop-k.reader.place
     c.loop-k.sampled _ _ c.loop-k.invariant.0 (omega arith) (rw e at f.answers) in
     record {
-      answers = failed_exit _ (MadeComponents c.args.count) c.component-fields.new.reader _ p.0 _ all p.1 p.2;
+      answers = failed_exit _ (MadeComponents c.args.count) c.component_fields.new.reader _ p.0 _ all p.1 p.2;
       same = search rules;
     }
 

@@ -3,5 +3,5 @@ use Rattle.settings.proofs.inherit.main_settings.Goals as goal
 
 pub returns : goal.returns
 returns c =
-    main_settled c.args.index c.blank.result c.after-all-row.result _ c.args.segments.now c.blank.ensures c.after-all-row.ensures.applied
+    main_settled c.args.index c.blank.result c.after_all-row.result _ c.args.segments.now c.blank.ensures c.after_all-row.ensures.applied
     c.inherited.ensures

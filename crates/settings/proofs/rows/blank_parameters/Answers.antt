@@ -2,5 +2,12 @@ use Rattle.std.proofs.Common.{lit≤}
 use Rattle.settings.proofs.Zeros.{zeros_low}
 use Rattle.settings.proofs.rows.blank_parameters.Goals as goal
 
-pub invariant-of-result : goal.invariant-of-result
-invariant-of-result c = (lit≤ tt, ((lit≤ tt, lit≤ tt), ((lit≤ tt, lit≤ tt), (lit≤ tt, (zeros_low 33, (zeros_low 33, tt))))))
+pub invariant_of-result : goal.invariant_of-result
+invariant_of-result c = record {
+  deep = lit≤ tt;
+  wide = (lit≤ tt, lit≤ tt);
+  high = (lit≤ tt, lit≤ tt);
+  small = lit≤ tt;
+  narrow = zeros_low 33;
+  low = zeros_low 33;
+}

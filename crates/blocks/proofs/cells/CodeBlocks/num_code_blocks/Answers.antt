@@ -13,6 +13,6 @@ returns c =
       closed = all_of b c.number.result c.number.ensures;
       areas_add_up = (partition_of b).areas;
       exactly_one = (partition_of b).points;
-      all-proper = blocks_proper (2 ^ b.xcb) (2 ^ b.ycb) (region b.rect);
+      all_proper = blocks_proper (2 ^ b.xcb) (2 ^ b.ycb) (region b.rect);
       few = omega (arith, e, few_of b);
     }

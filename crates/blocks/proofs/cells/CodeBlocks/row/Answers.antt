@@ -9,13 +9,13 @@ below n m k w v e f h = subst (λ (a : ℕ). k / w < a) (sym f) (subst (λ (a : 
 pub numbered-requires : goal.numbered-requires
 numbered-requires c =
     let b = c.args.self.now in
-    below (columns b) (rows b) c.args.k c.from-wide.result c.num-rows.result (c.from-wide.ensures ∙ c.num-columns.ensures)
-    c.num-rows.ensures c.requires
+    below (columns b) (rows b) c.args.k c.from-wide.result c.num_rows.result (c.from-wide.ensures ∙ c.num_columns.ensures)
+    c.num_rows.ensures c.requires
 
 pub returns : goal.returns
 returns c =
     let b = c.args.self.now in
-    let v = c.numbered.ensures ∙ ap (λ n. c.args.k / n) (c.from-wide.ensures ∙ c.num-columns.ensures) in
+    let v = c.numbered.ensures ∙ ap (λ n. c.args.k / n) (c.from-wide.ensures ∙ c.num_columns.ensures) in
     record {
       value = v;
       below = subst (λ (j : ℕ). j < rows b) (sym v) (row_below (columns b) (rows b) c.args.k c.requires);

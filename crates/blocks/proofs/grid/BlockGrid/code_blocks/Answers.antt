@@ -20,7 +20,7 @@ returns c =
     let e = block_exponent_of g.xcb x in
     let f = block_exponent_of g.ycb y in
     let w = c.block_exponent.ensures.value in
-    let h = c.block-exponent-2.ensures.value in
+    let h = c.block_exponent-2.ensures.value in
     let listed = get_or (precincts x y) c.args.k blank in
     let band = sub_band x y c.args.band in
     let shares =
@@ -33,6 +33,6 @@ returns c =
       shares = shares;
       width = w;
       height = h;
-      same_list = same_blocks c.block_exponent.result e c.block-exponent-2.result f (region c.cut.result) (meets (region listed.rect) band) w h shares;
+      same_list = same_blocks c.block_exponent.result e c.block_exponent-2.result f (region c.cut.result) (meets (region listed.rect) band) w h shares;
       cut_up = cut_up g.xcb g.ycb x y c.args.band (together p) q.accepted s.0;
     }

@@ -7,6 +7,6 @@ returns c =
     let g = c.args.self.now in
     let p = g.precincts in
     record {
-      answers = c.band-edges.ensures;
+      answers = c.band_edges.ensures;
       cut_up = λ hb ok. cut_up g.xcb g.ycb (across p) (down p) c.args.band (together p) ok hb;
     }

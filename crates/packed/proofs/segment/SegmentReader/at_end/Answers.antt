@@ -10,4 +10,4 @@ returns-then-offset-self c =
 pub returns-else-offset-self : goal.returns-else-offset-self
 returns-else-offset-self c =
     end_outside c.args.self.now.end c.args.self.now.reader.«data».now c.args.self.now.reader.place c.offset.result
-    c.at-end.result c.offset.ensures (omega arith) c.at-end.ensures
+    c.at_end.result c.offset.ensures (omega arith) c.at_end.ensures

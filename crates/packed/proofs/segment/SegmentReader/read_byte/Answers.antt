@@ -12,6 +12,6 @@ returns-in_err-room c =
 pub returns : goal.returns
 returns c =
     record {
-      reads = cut_reads 1 IsByte IsByte c.args.self.now (record { reader = c.read-byte.new.self; end = c.args.self.now.end }) c.read-byte.result c.in_ok-room.ensures (λ v e. cut_byte c.args.self.now.end c.args.self.now.reader.«data».now c.args.self.now.reader.place v c.in_ok-room.ensures e) c.read-byte.ensures.reads;
+      reads = cut_reads 1 IsByte IsByte c.args.self.now (record { reader = c.read_byte.new.self; end = c.args.self.now.end }) c.read_byte.result c.in_ok-room.ensures (λ v e. cut_byte c.args.self.now.end c.args.self.now.reader.«data».now c.args.self.now.reader.place v c.in_ok-room.ensures e) c.read_byte.ensures.reads;
       same = search rules;
     }

@@ -12,6 +12,6 @@ returns-in_err-room c =
 pub returns : goal.returns
 returns c =
     record {
-      reads = cut_reads c.args.len (IsPartOf c.args.len) (λ _. IsPartOf c.args.len c.args.self.now.reader.«data») c.args.self.now (record { reader = c.read-bytes.new.self; end = c.args.self.now.end }) c.read-bytes.result c.in_ok-room.ensures (λ v e. e) c.read-bytes.ensures.reads;
+      reads = cut_reads c.args.len (IsPartOf c.args.len) (λ _. IsPartOf c.args.len c.args.self.now.reader.«data») c.args.self.now (record { reader = c.read_bytes.new.self; end = c.args.self.now.end }) c.read_bytes.result c.in_ok-room.ensures (λ v e. e) c.read_bytes.ensures.reads;
       same = search rules;
     }

@@ -12,6 +12,6 @@ returns-in_err-room c =
 pub returns : goal.returns
 returns c =
     record {
-      reads = cut_reads 4 IsLong IsLong c.args.self.now (record { reader = c.read-u32.new.self; end = c.args.self.now.end }) c.read-u32.result c.in_ok-room.ensures (λ v e. cut_long c.args.self.now.end c.args.self.now.reader.«data».now c.args.self.now.reader.place v c.in_ok-room.ensures e) c.read-u32.ensures.reads;
+      reads = cut_reads 4 IsLong IsLong c.args.self.now (record { reader = c.read_u32.new.self; end = c.args.self.now.end }) c.read_u32.result c.in_ok-room.ensures (λ v e. cut_long c.args.self.now.end c.args.self.now.reader.«data».now c.args.self.now.reader.place v c.in_ok-room.ensures e) c.read_u32.ensures.reads;
       same = search rules;
     }

@@ -4,9 +4,9 @@ use Rattle.precincts.specs.Asked.{direction}
 use Rattle.precincts.proofs.Ways.{cells_up}
 use Rattle.precincts.proofs.axis.PrecinctAxis.count.Goals as goal
 
-pub overflow-sub-result : goal.overflow-sub-result
-overflow-sub-result c =
+pub overflow_sub-result : goal.overflow_sub-result
+overflow_sub-result c =
     let a = c.args.self in
     let u = reach (direction a) in
-    simp (c.first-cell.ensures, c.ceil-div-pow.ensures, c.reach-end-end.ensures)
-    (cells_up u.from u.to (2 ^ a.exponent) (pow_pos a.exponent) (omega (arith, c.reach-start.ensures, c.reach-end-end.ensures)))
+    simp (c.first_cell.ensures, c.ceil_div_pow.ensures, c.reach_end-end.ensures)
+    (cells_up u.from u.to (2 ^ a.exponent) (pow_pos a.exponent) (omega (arith, c.reach_start.ensures, c.reach_end-end.ensures)))

@@ -9,11 +9,11 @@ below c =
     let a = c.args.self in
     let w = direction a in
     let e : (c.from.result + c.from-2.result) * c.stride-d.result ≡ ((reach w).from / 2 ^ a.exponent + c.args.k) * stride w =
-    ap₂ ◌*◌ (ap₂ ◌+◌ (c.from.ensures ∙ c.first-cell.ensures) c.from-2.ensures) c.stride-d.ensures.value in
+    ap₂ ◌*◌ (ap₂ ◌+◌ (c.from.ensures ∙ c.first_cell.ensures) c.from-2.ensures) c.stride-d.ensures.value in
     omega (arith, later_before w a.stepped c.args.k c.requires)
 
-pub overflow-mul-result : goal.overflow-mul-result
-overflow-mul-result c = record { fits = omega (arith, below c) }
+pub overflow_mul-result : goal.overflow_mul-result
+overflow_mul-result c = record { fits = omega (arith, below c) }
 
-pub overflow-cast-result : goal.overflow-cast-result
-overflow-cast-result c = record { fits = below c }
+pub overflow_cast-result : goal.overflow_cast-result
+overflow_cast-result c = record { fits = below c }

@@ -11,4 +11,4 @@ returns-then-k-eq0 c =
 pub returns : goal.returns
 returns c =
     let a = c.args.self in
-    c.later-start.ensures ∙ place_later (direction a) a.stepped c.args.k (λ z. omega arith) c.requires
+    c.later_start.ensures ∙ place_later (direction a) a.stepped c.args.k (λ z. omega arith) c.requires

@@ -14,5 +14,5 @@ returns-in-Some c =
 pub returns : goal.returns
 returns c =
     let g = c.args.self.now in
-    precinct_is (across g) (down g) g.x.stepped g.y.stepped c.args.k c.precinct-by-number.result (sym c.in-default.ensures) (omega arith)
-    c.precinct-by-number.ensures
+    precinct_is (across g) (down g) g.x.stepped g.y.stepped c.args.k c.precinct_by_number.result (sym c.in_default.ensures) (omega arith)
+    c.precinct_by_number.ensures

@@ -16,4 +16,4 @@ pub returns : goal.returns
 returns c =
     let e = c.in_ok-bytes.ensures in
     component_handed c.args.codestream.now c.args.self.now c.args.index c.in_ok-place.place c.in_ok-bytes.bytes.now
-    c.component-info.result (omega arith) (search rules) (search rules) (search rules) c.component-info.ensures
+    c.component_info.result (omega arith) (search rules) (search rules) (search rules) c.component_info.ensures
