@@ -14,6 +14,6 @@ returns c =
       found =
           as_found standing.ppt 97 (here ppt_layout c.args.reader.now)
           (Ppt c.in_ok-ppt.ppt.zppt c.in_ok-ppt.ppt.place (length c.in_ok-ppt.ppt.«data».now))
-          c.ppt-marker.new.reader f.answers.0 (refl, m.zppt, m.place, m.size);
+          c.ppt_marker.new.reader f.answers.0 (refl, m.zppt, m.place, m.size);
       same = f.same;
     }

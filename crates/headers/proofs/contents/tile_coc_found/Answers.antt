@@ -13,7 +13,7 @@ returns c =
     record {
       found =
           image_found c.args.csiz c.args.place standing.coc 83 (here (tile_coc_layout c.args.csiz) c.args.reader.now)
-          (Sets (Coc c.in_ok-coc.coc.0 c.in_ok-coc.coc.1)) c.tile-coc-marker.new.reader f.answers.0
+          (Sets (Coc c.in_ok-coc.coc.0 c.in_ok-coc.coc.1)) c.tile_coc_marker.new.reader f.answers.0
           (omega (arith, f.answers.1.index)) (refl, f.answers.1);
       same = f.same;
     }

@@ -13,7 +13,7 @@ returns c =
     record {
       found =
           image_found c.args.csiz c.args.place standing.qcc 93 (here (qcc_layout false c.args.csiz) c.args.reader.now)
-          (Sets (Qcc c.in_ok-qcc.qcc.0 c.in_ok-qcc.qcc.1)) c.tile-qcc-marker.new.reader f.answers.0
+          (Sets (Qcc c.in_ok-qcc.qcc.0 c.in_ok-qcc.qcc.1)) c.tile_qcc_marker.new.reader f.answers.0
           (omega (arith, f.answers.1.index)) (refl, f.answers.1);
       same = f.same;
     }
@@ -24,6 +24,6 @@ returns-then-qcc-csiz c =
     record {
       found =
           image_refused c.args.csiz c.args.place standing.qcc 93 (here (qcc_layout false c.args.csiz) c.args.reader.now)
-          c.tile-qcc-marker.new.reader.place f.answers.0 (omega (arith, f.answers.1.index));
+          c.tile_qcc_marker.new.reader.place f.answers.0 (omega (arith, f.answers.1.index));
       same = f.same;
     }

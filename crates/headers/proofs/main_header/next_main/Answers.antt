@@ -4,9 +4,9 @@ use Rattle.headers.specs.Standing.{behind_main, main_standing}
 use Rattle.headers.proofs.Founds.{found_as, main_standing_lem}
 use Rattle.headers.proofs.main_header.next_main.Goals as goal
 
-pub returns-in-default : goal.returns-in-default
-returns-in-default c =
-    record { found = sym (main_standing_lem c.args.reader.now.«data».now c.args.csiz c.args.reader.now.place None c.in-default.ensures); same = refl }
+pub returns-in_default : goal.returns-in_default
+returns-in_default c =
+    record { found = sym (main_standing_lem c.args.reader.now.«data».now c.args.csiz c.args.reader.now.place None c.in_default.ensures); same = refl }
 
 pub returns : goal.returns
 returns c =
@@ -14,7 +14,7 @@ returns c =
     let p = c.args.reader.now.place in
     record {
       found =
-          found_as (main_standing d c.args.csiz p) (behind_main d c.args.csiz p (main_kind_of c.in-Some.marker)) c.main-segment.new.reader
-          c.main-segment.result (main_standing_lem d c.args.csiz p (Some c.in-Some.marker) c.in-Some.ensures) c.main-segment.ensures.found;
-      same = c.main-segment.ensures.same;
+          found_as (main_standing d c.args.csiz p) (behind_main d c.args.csiz p (main_kind_of c.in-Some.marker)) c.main_segment.new.reader
+          c.main_segment.result (main_standing_lem d c.args.csiz p (Some c.in-Some.marker) c.in-Some.ensures) c.main_segment.ensures.found;
+      same = c.main_segment.ensures.same;
     }

@@ -8,14 +8,14 @@ pub returns-then-strict : goal.returns-then-strict
 returns-then-strict c =
     let n =
     part_none c.args.reader.now.«data».now c.args.csiz c.args.packets c.args.reader.now.place c.offset-place.result
-    c.in-default.ensures c.offset-place.ensures in
+    c.in_default.ensures c.offset-place.ensures in
     record { found = simp c.if-strict.true n.0; same = refl }
 
-pub returns-in-default : goal.returns-in-default
-returns-in-default c =
+pub returns-in_default : goal.returns-in_default
+returns-in_default c =
     let n =
     part_none c.args.reader.now.«data».now c.args.csiz c.args.packets c.args.reader.now.place c.args.reader.now.place
-    c.in-default.ensures refl in
+    c.in_default.ensures refl in
     record { found = simp c.if-strict.false n.1; same = refl }
 
 pub returns : goal.returns
@@ -25,8 +25,8 @@ returns c =
     record {
       found =
           found_as (part_standing d c.args.csiz c.args.packets c.args.strict p)
-          (behind_part d c.args.csiz c.args.packets p (part_kind_of c.in-Some.marker)) c.part-segment.new.reader c.part-segment.result
+          (behind_part d c.args.csiz c.args.packets p (part_kind_of c.in-Some.marker)) c.part_segment.new.reader c.part_segment.result
           (part_standing_lem d c.args.csiz c.args.packets c.args.strict p (Some c.in-Some.marker) c.in-Some.ensures)
-          c.part-segment.ensures.found;
-      same = c.part-segment.ensures.same;
+          c.part_segment.ensures.found;
+      same = c.part_segment.ensures.same;
     }

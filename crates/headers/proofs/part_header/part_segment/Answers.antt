@@ -13,57 +13,57 @@ use Rattle.headers.proofs.part_header.part_segment.Goals as goal
 
 pub returns-in-Cod : goal.returns-in-Cod
 returns-in-Cod c =
-    let f = c.in_ok-read-marker.ensures in
+    let f = c.in_ok-read_marker.ensures in
     let d = c.args.reader.now.«data».now in
     let p = c.args.reader.now.place in
     record {
       found =
-          read_found (λ s. s) cod_layout standing.cod 82 d p _ c.read-marker.new.self c.cod-found.new.reader c.cod-found.result
-          (ap (λ (k : Kind). behind_part d c.args.csiz c.args.packets p k) (sym c.in-Cod.is ∙ c.part-kind-kind.ensures))
-          (ap (λ (s : Bor (List ℕ)). s.now) f.same) f.reads.1 c.cod-found.ensures.found;
-      same = c.cod-found.ensures.same ∙ f.same;
+          read_found (λ s. s) cod_layout standing.cod 82 d p _ c.read_marker.new.self c.cod_found.new.reader c.cod_found.result
+          (ap (λ (k : Kind). behind_part d c.args.csiz c.args.packets p k) (sym c.in-Cod.is ∙ c.part_kind-kind.ensures))
+          (ap (λ (s : Bor (List ℕ)). s.now) f.same) f.reads.1 c.cod_found.ensures.found;
+      same = c.cod_found.ensures.same ∙ f.same;
     }
 
 pub returns-in-Coc : goal.returns-in-Coc
 returns-in-Coc c =
-    let f = c.in_ok-read-marker.ensures in
+    let f = c.in_ok-read_marker.ensures in
     let d = c.args.reader.now.«data».now in
     let p = c.args.reader.now.place in
     record {
       found =
-          read_found (in_image c.args.csiz c.offset-place.result) (tile_coc_layout c.args.csiz) standing.coc 83 d p _ c.read-marker.new.self c.tile-coc-found.new.reader c.tile-coc-found.result
+          read_found (in_image c.args.csiz c.offset-place.result) (tile_coc_layout c.args.csiz) standing.coc 83 d p _ c.read_marker.new.self c.tile_coc_found.new.reader c.tile_coc_found.result
           (ap (λ (q : ℕ). in_image c.args.csiz q (as_read standing.coc 83 (meaning (tile_coc_layout c.args.csiz) d (p + 2)))) c.offset-place.ensures
-          ∙ ap (λ (k : Kind). behind_part d c.args.csiz c.args.packets p k) (sym c.in-Coc.is ∙ c.part-kind-kind.ensures))
-          (ap (λ (s : Bor (List ℕ)). s.now) f.same) f.reads.1 c.tile-coc-found.ensures.found;
-      same = c.tile-coc-found.ensures.same ∙ f.same;
+          ∙ ap (λ (k : Kind). behind_part d c.args.csiz c.args.packets p k) (sym c.in-Coc.is ∙ c.part_kind-kind.ensures))
+          (ap (λ (s : Bor (List ℕ)). s.now) f.same) f.reads.1 c.tile_coc_found.ensures.found;
+      same = c.tile_coc_found.ensures.same ∙ f.same;
     }
 
 pub returns-in-Qcc : goal.returns-in-Qcc
 returns-in-Qcc c =
-    let f = c.in_ok-read-marker.ensures in
+    let f = c.in_ok-read_marker.ensures in
     let d = c.args.reader.now.«data».now in
     let p = c.args.reader.now.place in
     record {
       found =
-          read_found (in_image c.args.csiz c.offset-place.result) (qcc_layout false c.args.csiz) standing.qcc 93 d p _ c.read-marker.new.self c.tile-qcc-found.new.reader c.tile-qcc-found.result
+          read_found (in_image c.args.csiz c.offset-place.result) (qcc_layout false c.args.csiz) standing.qcc 93 d p _ c.read_marker.new.self c.tile_qcc_found.new.reader c.tile_qcc_found.result
           (ap (λ (q : ℕ). in_image c.args.csiz q (as_read standing.qcc 93 (meaning (qcc_layout false c.args.csiz) d (p + 2)))) c.offset-place.ensures
-          ∙ ap (λ (k : Kind). behind_part d c.args.csiz c.args.packets p k) (sym c.in-Qcc.is ∙ c.part-kind-kind.ensures))
-          (ap (λ (s : Bor (List ℕ)). s.now) f.same) f.reads.1 c.tile-qcc-found.ensures.found;
-      same = c.tile-qcc-found.ensures.same ∙ f.same;
+          ∙ ap (λ (k : Kind). behind_part d c.args.csiz c.args.packets p k) (sym c.in-Qcc.is ∙ c.part_kind-kind.ensures))
+          (ap (λ (s : Bor (List ℕ)). s.now) f.same) f.reads.1 c.tile_qcc_found.ensures.found;
+      same = c.tile_qcc_found.ensures.same ∙ f.same;
     }
 
 pub returns-in-Ppt : goal.returns-in-Ppt
 returns-in-Ppt c =
-    let f = c.in_ok-read-marker.ensures in
+    let f = c.in_ok-read_marker.ensures in
     let d = c.args.reader.now.«data».now in
     let p = c.args.reader.now.place in
     let unless : ℕ → Standing → Standing = λ q s. cond c.args.packets (ends (refused (Tile (PpmPptConflict q)))) s in
     record {
       found =
-          read_found (unless c.offset-place.result) ppt_layout standing.ppt 97 d p _ c.read-marker.new.self c.ppt-unless.new.reader
-          c.ppt-unless.result
+          read_found (unless c.offset-place.result) ppt_layout standing.ppt 97 d p _ c.read_marker.new.self c.ppt_unless.new.reader
+          c.ppt_unless.result
           (ap (λ (q : ℕ). unless q (as_read standing.ppt 97 (meaning ppt_layout d (p + 2)))) c.offset-place.ensures
-          ∙ ap (λ (k : Kind). behind_part d c.args.csiz c.args.packets p k) (sym c.in-Ppt.is ∙ c.part-kind-kind.ensures))
-          (ap (λ (s : Bor (List ℕ)). s.now) f.same) f.reads.1 c.ppt-unless.ensures.found;
-      same = c.ppt-unless.ensures.same ∙ f.same;
+          ∙ ap (λ (k : Kind). behind_part d c.args.csiz c.args.packets p k) (sym c.in-Ppt.is ∙ c.part_kind-kind.ensures))
+          (ap (λ (s : Bor (List ℕ)). s.now) f.same) f.reads.1 c.ppt_unless.ensures.found;
+      same = c.ppt_unless.ensures.same ∙ f.same;
     }
