@@ -14,4 +14,4 @@ returns c =
     let l : c.in-Ok.segment.zppm < 256 = search rules in
     let of : c.new-reader.result.«data».now ≡ c.args.codestream.now = search rules in
     segment_same c.new-reader.result c.in-Ok.segment c.args.codestream.now c.args.place c.args.zppm c.args.n
-    c.nth-packet.result of c.new-reader.ensures.at c.in-Ok.ensures.answers.1 l c.if-segment-zppm.false c.nth-packet.ensures
+    c.nth_packet.result of c.new-reader.ensures.at c.in-Ok.ensures.answers.1 l c.if-segment-zppm.false c.nth_packet.ensures

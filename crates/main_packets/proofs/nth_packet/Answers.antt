@@ -11,4 +11,4 @@ returns-then-left-eq0 c =
 pub returns : goal.returns
 returns c =
     c.loop-packet.invariant (Err _)
-    (nth_none c.args.zppm (packets_left c.loop-packet.rest) c.loop-packet.left c.in-default.ensures.0)
+    (nth_none c.args.zppm (packets_left c.loop-packet.rest) c.loop-packet.left c.in_default.ensures.0)

@@ -9,8 +9,8 @@ returns-in-Closed c =
     let d = c.args.codestream.now in
     let f = c.in_ok-start.ensures in
     let of : c.new-reader.result.«data».now ≡ d = cc in
-    let same : c.tile-part-start.new.reader.«data».now ≡ d = cc in
-    let at : c.tile-part-start.new.reader.place ≡ c.args.place + 12 = omega (arith, f.behind.0, c.new-reader.ensures.at) in
+    let same : c.tile_part_start.new.reader.«data».now ≡ d = cc in
+    let at : c.tile_part_start.new.reader.place ≡ c.args.place + 12 = omega (arith, f.behind.0, c.new-reader.ensures.at) in
     let start : Ok c.in_ok-start.start ≡ start_of d c.args.place c.args.tiles =
     f.start ∙ ap₂ (λ (s : List ℕ) (p : ℕ). start_of s p c.args.tiles) of c.new-reader.ensures.at in
     let header : HeaderEnds d c.args.csiz c.args.packets c.args.strict (c.args.place + 12) (Ok c.in_ok-header.header) =
@@ -19,7 +19,7 @@ returns-in-Closed c =
     record {
       surveyed =
           part_closed d c.args.place c.args.tiles c.args.csiz c.args.packets c.args.strict c.in_ok-start.start
-          c.in_ok-header.header c.in-Closed.body c.in-Closed.headers c.tile-part-end.result start header c.in-Closed.is
-          c.tile-part-end.ensures;
-      inside = made_anyway c.tile-part-end.result inside;
+          c.in_ok-header.header c.in-Closed.body c.in-Closed.headers c.tile_part_end.result start header c.in-Closed.is
+          c.tile_part_end.ensures;
+      inside = made_anyway c.tile_part_end.result inside;
     }
