@@ -1,5 +1,5 @@
 -- What the calls on code-blocks answer.
-use Rattle.std.specs.Prelude.{◌≡◌, ℕ, ◌^◌, ◌<◌, ◌≤◌, true, false, ◌⊎◌, List, length, get_or, Some, None, Ok, Err, Option, Result, slice_index_or}
+use Rattle.std.specs.Prelude.{◌≡◌, ℕ, ◌^◌, ◌<◌, ◌≤◌, true, false, ◌⊎◌, List, length, Some, None, Ok, Err, Option, Result, slice_index_or}
 use Rattle.std.specs.List.{AllByRecursion as All}
 use Rattle.faults.specs.declared.decode.BookError.TheVariants.{NoSuchIndex}
 use Rattle.faults.specs.declared.decode.DecodeError.{DecodeError}
@@ -59,7 +59,7 @@ pub record BlocksAre (g : BlockGrid) (b : SubBandType) (k : ℕ) (c : CodeBlocks
   pub accepted : refusal (across g.precincts) (down g.precincts) ≡ None
   pub there : k < length (precincts (across g.precincts) (down g.precincts))
   pub shares : region c.rect
-      ≡ meets (region (get_or (precincts (across g.precincts) (down g.precincts)) k blank).rect)
+      ≡ meets (region (slice_index_or (precincts (across g.precincts) (down g.precincts)) k blank).rect)
       (sub_band (across g.precincts) (down g.precincts) b)
   pub width : c.xcb ≡ block_exponent_of g.xcb (across g.precincts)
   pub height : c.ycb ≡ block_exponent_of g.ycb (down g.precincts)
