@@ -26,7 +26,7 @@ OWN = {
     "exponentMantissa": "exponent_mantissa_of",
     "first-start": "first_start_of",
     "getD-product": "get_or_product",
-    "is-cod": "is_cod_segment",
+    "is-cod": "cod_there",
     "isCod": "cod_test",
     "isDerived": "has_derived_style",
     "isQcd": "qcd_test",
@@ -86,9 +86,9 @@ def declared(text):
         if m:
             yield m.group(1)
             continue
-        m = re.match(r"(?:  )?(?:abbrev |unfoldable )?(?:pub )?([^\s:(){}]+) :(?: (.*)|$)", line)
+        m = re.match(r"(?:  )?(?:abbrev |unfoldable )?(?:pub )?([^\s:(){}]+(?: [^\s:(){}]+)*) :(?: (.*)|$)", line)
         if m and not re.match(r"(?:need|goal)\.", m.group(2) or ""):
-            yield m.group(1)
+            yield from m.group(1).split(" ")
 
 
 def turned(text, names):

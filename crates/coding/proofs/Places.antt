@@ -1,14 +1,13 @@
 -- The places of the fields of COD and COC.
-use Rattle.std.proofs.Common.{◌≡◌, ℕ, zero, suc, ◌+◌, ◌<◌, ◌≤◌, Bool, true, false, cond, ltb, List, [], ◌∷◌, ◌++◌, length, get_or, take, drop, sym, refl, ap, ◌∙◌, ap₂, inl, inr, add_assoc, add-one, arith, drop-cons}
-use Rattle.std.proofs.lemmas.Bool.{cases_Bool}
+use Rattle.std.proofs.Common.{◌≡◌, ℕ, zero, suc, ◌+◌, ◌<◌, ◌≤◌, Bool, true, false, cond, ltb, List, [], ◌∷◌, ◌++◌, length, get_or, sym, refl, ap, ◌∙◌, ap₂, add_assoc, add-one, arith, drop-cons}
 use Rattle.reader.specs.Bytes.{byte_at, word_at, part}
 use Rattle.layouts.specs.Indices.{index_width}
-use Rattle.layouts.specs.Layouts.{Reading, read, reading, meaning, field, one, two, any, size, values_at}
+use Rattle.layouts.specs.Layouts.{read, reading, meaning, field, one, two, any, size, values_at}
 use Rattle.layouts.proofs.Tables.{table_read, first_inside}
-use Rattle.layouts.proofs.Times.{Split, followed_read}
+use Rattle.layouts.proofs.Times.{followed_read}
 use Rattle.coding.specs.Styles.{bit}
 use Rattle.coding.specs.Coding.{block_table, precinct_table, precincts_layout, precinct_size_count, parameters_layout, cod_table, coc_table}
-use Rattle.coding.specs.Places.{cod_length, coc_length, parameters_at, CodAt, CodPlaces, CocAt, CocPlaces}
+use Rattle.coding.specs.Places.{parameters_at, CodPlaces, CocPlaces}
 
 part_more : (n : ℕ) (d : List ℕ) (p : ℕ) → p < length d → part (suc n) d p ≡ byte_at d p ∷ part n d (p + 1)
 part_more n d p h = rw (add-one, drop-cons d p 0) refl

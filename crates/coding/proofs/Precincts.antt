@@ -1,10 +1,10 @@
 -- How far the loop that reads the precinct sizes has come.
-use Rattle.std.proofs.Common.{◌≡◌, ℕ, zero, suc, ◌+◌, ◌/◌, ◌%◌, ◌<◌, ◌≤◌, ◌≢◌, List, [], ◌∷◌, ◌++◌, map, length, get_or, set, replicate, sym, refl, ap, ◌∙◌, subst, inl, inr, arith, lit≤, length-set, get_or-set_other, get_or-set_same}
+use Rattle.std.proofs.Common.{◌≡◌, ℕ, zero, suc, ◌+◌, ◌<◌, ◌≤◌, ◌≢◌, List, [], ◌∷◌, ◌++◌, map, length, get_or, set, replicate, sym, refl, ap, ◌∙◌, subst, inl, inr, arith, lit≤, length-set, get_or-set_other, get_or-set_same}
 use lib.ListN.{get_or-replicate, length-map}
 use Rattle.std.proofs.lemmas.List.{length_push, get_or_push, map_push}
 use Rattle.std.proofs.lemmas.Bool.{cases_eq}
 use Rattle.faults.specs.declared.segment.Cause.{Cause}
-use Rattle.layouts.specs.Layouts.{Reading, read, failed, reading, meaning, fields, values_of}
+use Rattle.layouts.specs.Layouts.{read, failed, reading, meaning, fields, values_of}
 use Rattle.layouts.proofs.Times.{Run, run_none, run_more, run_failed, run_all}
 use Rattle.layouts.proofs.Exits.{is_read}
 use Rattle.coding.specs.Coding.{MadeRows, precinct_table, precincts_layout, ppx, ppy}

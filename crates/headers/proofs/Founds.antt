@@ -13,7 +13,7 @@ use Rattle.layouts.proofs.Tables.{never}
 use Rattle.headers.specs.declared.found.Found.{Found}
 use Rattle.headers.specs.declared.found.Found.TheVariants.{Stands}
 use Rattle.headers.specs.declared.found.Segment.{Segment}
-use Rattle.headers.specs.Standing.{Contents, Standing, ends, by-none, refused, as_read, in_image, by_main, main_standing, by_part, part_standing, KeptOf, FoundAs}
+use Rattle.headers.specs.Standing.{Contents, Standing, ends, by_none, refused, as_read, in_image, by_main, main_standing, by_part, part_standing, KeptOf, FoundAs}
 
 pub as_found :
     (k : Contents) (m : ℕ) (R : Reading) (g : Segment) (a : BitReader) → R ≡ read (values_of R) a.place
@@ -47,10 +47,10 @@ part_standing_lem d csiz packets strict p o e = ap (by_part d csiz packets stric
 
 pub part_none :
     (d : List ℕ) (csiz : ℕ) (packets : Bool) (p q : ℕ) → None ≡ marker_at d p → q ≡ p
-    → (part_standing d csiz packets true p ≡ ends (refused (Marker (Invalid q)))) × (part_standing d csiz packets false p ≡ ends (by-none q))
+    → (part_standing d csiz packets true p ≡ ends (refused (Marker (Invalid q)))) × (part_standing d csiz packets false p ≡ ends (by_none q))
 part_none d csiz packets p q e f = (
   sym (part_standing_lem d csiz packets true p None e) ∙ ap (λ (x : ℕ). ends (refused (Marker (Invalid x)))) (sym f),
-  sym (part_standing_lem d csiz packets false p None e) ∙ ap (λ (x : ℕ). ends (by-none x)) (sym f),
+  sym (part_standing_lem d csiz packets false p None e) ∙ ap (λ (x : ℕ). ends (by_none x)) (sym f),
 )
 
 -- a segment whose component index is tested behind it

@@ -1,5 +1,5 @@
 -- One header from each place.
-use Rattle.std.proofs.Common.{◌≡◌, ℕ, zero, suc, ◌+◌, ◌<◌, Bool, ◌⊎◌, List, [], ◌∷◌, length, refl, subst, inl, inr, arith}
+use Rattle.std.proofs.Common.{◌≡◌, ℕ, zero, suc, ◌+◌, ◌<◌, ◌⊎◌, List, [], ◌∷◌, length, refl, subst, inl, inr, arith}
 use Rattle.headers.specs.Standing.{Item, Ending, Standing, stands, ends, main_standing, part_standing}
 use Rattle.headers.specs.Grammar.{Headed}
 use Rattle.headers.specs.Laws.{OneHeader, Onward, SomeMain, SomePart}

@@ -1,5 +1,5 @@
 -- Every reading ends behind where it began, and in the codestream.
-use Rattle.std.proofs.Common.{◌≡◌, ℕ, ◌+◌, ◌≤◌, Bool, true, false, cond, eqb, ltb, leb, List, [], ◌∷◌, ◌++◌, length, get_or, take, subst, inl, inr, arith}
+use Rattle.std.proofs.Common.{ℕ, ◌+◌, ◌≤◌, Bool, true, false, cond, eqb, ltb, leb, List, [], ◌∷◌, ◌++◌, length, get_or, take, subst, inl, inr, arith}
 use Rattle.std.proofs.lemmas.Bool.{cases_Bool}
 use Rattle.std.proofs.lemmas.Bool.Decides.{nat_tests}
 use Rattle.faults.specs.declared.decode.DecodeError.TheVariants.{Marker}
@@ -13,7 +13,7 @@ use Rattle.quantization.specs.Quantization.{qcd_layout, qcc_layout}
 use Rattle.headers.specs.declared.kind.Kind.{Kind}
 use Rattle.headers.specs.declared.kind.Kind.TheVariants as kind
 use Rattle.headers.specs.Kinds.{main_kind_of, part_kind_of}
-use Rattle.headers.specs.Standing.{Contents, Item, Standing, stands, ends, by-none, refused, as_read, in_image, behind_main, main_standing, behind_part, part_standing}
+use Rattle.headers.specs.Standing.{Contents, Standing, stands, ends, by_none, refused, as_read, in_image, behind_main, main_standing, behind_part, part_standing}
 use Rattle.headers.specs.Laws.{MainOnward, PartOnward}
 
 -- a reading from p on ends there or behind, in the codestream
@@ -127,7 +127,7 @@ main_on d csiz p =
       | inr t ↦ rw t tt
     ]
 
-missing : (strict : Bool) (d : List ℕ) (p : ℕ) → StandsOn d p (cond strict (ends (refused (Marker (Invalid p)))) (ends (by-none p)))
+missing : (strict : Bool) (d : List ℕ) (p : ℕ) → StandsOn d p (cond strict (ends (refused (Marker (Invalid p)))) (ends (by_none p)))
 missing true d p = tt
 missing false d p = tt
 

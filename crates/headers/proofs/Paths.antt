@@ -4,7 +4,7 @@ use Rattle.reader.specs.declared.reader.BitReader.{BitReader}
 use Rattle.headers.specs.declared.found.Found.{Found}
 use Rattle.headers.specs.declared.found.Found.TheVariants.{Stands, Ends, NoMarker}
 use Rattle.headers.specs.declared.found.Segment.{Segment}
-use Rattle.headers.specs.Standing.{Item, Ending, by-marker, by-none, Standing, stands, ends, KeptOf, item_of, FoundAs}
+use Rattle.headers.specs.Standing.{Item, Ending, by_marker, by_none, Standing, stands, ends, KeptOf, item_of, FoundAs}
 use Rattle.headers.specs.Grammar.{Headed}
 
 -- the segments xs stand from p0 up to p: whatever header begins at p makes one with them
@@ -30,8 +30,8 @@ found_stands s t f g a e h is =
     let k : FoundAs t a (Ok (Stands g)) = subst (λ (z : Standing). FoundAs z a (Ok (Stands g))) e (subst (λ (z : Found). FoundAs s a (Ok z)) is h) in
     (item_of t, k.0, k.1, k.2)
 
-pub found_ends : (s t : Standing) (f : Found) (a : BitReader) → s ≡ t → FoundAs s a (Ok f) → f ≡ Ends → t ≡ ends (by-marker a.place)
+pub found_ends : (s t : Standing) (f : Found) (a : BitReader) → s ≡ t → FoundAs s a (Ok f) → f ≡ Ends → t ≡ ends (by_marker a.place)
 found_ends s t f a e h is = subst (λ (z : Standing). FoundAs z a (Ok Ends)) e (subst (λ (z : Found). FoundAs s a (Ok z)) is h)
 
-pub found_none : (s t : Standing) (f : Found) (a : BitReader) → s ≡ t → FoundAs s a (Ok f) → f ≡ NoMarker → t ≡ ends (by-none a.place)
+pub found_none : (s t : Standing) (f : Found) (a : BitReader) → s ≡ t → FoundAs s a (Ok f) → f ≡ NoMarker → t ≡ ends (by_none a.place)
 found_none s t f a e h is = subst (λ (z : Standing). FoundAs z a (Ok NoMarker)) e (subst (λ (z : Found). FoundAs s a (Ok z)) is h)

@@ -1,5 +1,5 @@
 -- What stands at a place of a header (T.800 A.3 to A.9): a segment, or what ends the header.
-use Rattle.std.specs.Prelude.{◌≡◌, ℕ, ◌+◌, ◌-◌, Bool, true, false, cond, List, [], ◌∷◌, length, drop, Some, None, Ok, Err, Option, Result, nat_lt, slice_index}
+use Rattle.std.specs.Prelude.{◌≡◌, ℕ, ◌+◌, ◌-◌, Bool, true, false, cond, List, [], length, drop, Some, None, Ok, Err, Option, Result, nat_lt, slice_index}
 use Rattle.faults.specs.declared.decode.DecodeError.{DecodeError}
 use Rattle.faults.specs.declared.decode.DecodeError.TheVariants.{Marker, Tile, Validation}
 use Rattle.faults.specs.declared.decode.MarkerError.TheVariants.{Invalid, Unsupported, ParseFailure}
@@ -35,7 +35,7 @@ pub record Item : Type 0 where
 
 -- how a header ends: by its last marker, for want of a marker, each with the place where reading stops; or by a refusal
 pub data Ending : Type 0 where
-  by-marker by-none : ℕ → Ending
+  by_marker by_none : ℕ → Ending
   refused : DecodeError → Ending
 
 pub data Standing : Type 0 where
@@ -56,7 +56,7 @@ unsupported p = ends (refused (Marker (Unsupported p)))
 
 -- in a main header of csiz components, at p, behind a marker of this kind; SOT ends the header and is left unread
 abbrev pub behind_main : List ℕ → ℕ → ℕ → Kind → Standing
-behind_main d csiz p kind.Sot = ends (by-marker p)
+behind_main d csiz p kind.Sot = ends (by_marker p)
 behind_main d csiz p kind.Sod = unsupported p
 behind_main d csiz p kind.Eoc = unsupported p
 behind_main d csiz p kind.Cod = as_read cod 82 (meaning cod_layout d (p + 2))
@@ -75,7 +75,7 @@ behind_main d csiz p kind.Foreign = unsupported p
 
 abbrev pub by_main : List ℕ → ℕ → ℕ → Option ℕ → Standing
 by_main d csiz p (Some m) = behind_main d csiz p (main_kind_of m)
-by_main d csiz p None = ends (by-none p)
+by_main d csiz p None = ends (by_none p)
 
 unfoldable pub main_standing : List ℕ → ℕ → ℕ → Standing
 main_standing d csiz p = by_main d csiz p (marker_at d p)
@@ -88,8 +88,8 @@ in_image csiz p (ends e) = ends e
 -- in a tile-part header; where packets of the main header are kept, PPT is refused before its bytes. SOD is read, EOC is left unread
 abbrev pub behind_part : List ℕ → ℕ → Bool → ℕ → Kind → Standing
 behind_part d csiz packets p kind.Sot = unsupported p
-behind_part d csiz packets p kind.Sod = ends (by-marker (p + 2))
-behind_part d csiz packets p kind.Eoc = ends (by-marker p)
+behind_part d csiz packets p kind.Sod = ends (by_marker (p + 2))
+behind_part d csiz packets p kind.Eoc = ends (by_marker p)
 behind_part d csiz packets p kind.Cod = as_read cod 82 (meaning cod_layout d (p + 2))
 behind_part d csiz packets p kind.Coc = in_image csiz p (as_read coc 83 (meaning (tile_coc_layout csiz) d (p + 2)))
 behind_part d csiz packets p kind.Qcd = as_read qcd 92 (meaning qcd_layout d (p + 2))
@@ -107,7 +107,7 @@ behind_part d csiz packets p kind.Foreign = unsupported p
 -- read strictly, a missing marker is refused
 abbrev pub by_part : List ℕ → ℕ → Bool → Bool → ℕ → Option ℕ → Standing
 by_part d csiz packets strict p (Some m) = behind_part d csiz packets p (part_kind_of m)
-by_part d csiz packets strict p None = cond strict (ends (refused (Marker (Invalid p)))) (ends (by-none p))
+by_part d csiz packets strict p None = cond strict (ends (refused (Marker (Invalid p)))) (ends (by_none p))
 
 unfoldable pub part_standing : List ℕ → ℕ → Bool → Bool → ℕ → Standing
 part_standing d csiz packets strict p = by_part d csiz packets strict p (marker_at d p)
@@ -133,6 +133,6 @@ item_of (ends e) = record { contents = nothing; values = []; behind = 0 }
 -- a call that answers what stands at a place, with the reader where reading stops
 abbrev pub FoundAs : Standing → BitReader → Result Found DecodeError → Type 0
 FoundAs s a (Ok (Stands g)) = (s ≡ stands (item_of s)) × ((item_of s).behind ≡ a.place) × KeptOf g (item_of s)
-FoundAs s a (Ok Ends) = s ≡ ends (by-marker a.place)
-FoundAs s a (Ok NoMarker) = s ≡ ends (by-none a.place)
+FoundAs s a (Ok Ends) = s ≡ ends (by_marker a.place)
+FoundAs s a (Ok NoMarker) = s ≡ ends (by_none a.place)
 FoundAs s a (Err f) = s ≡ ends (refused f)

@@ -1,5 +1,5 @@
 -- A reading as the answer of a call.
-use Rattle.std.proofs.Common.{◌≡◌, ℕ, List, Ok, Err, Result, sym, refl, ap, ◌∙◌}
+use Rattle.std.proofs.Common.{◌≡◌, ℕ, List, Err, Result, refl}
 use Rattle.faults.specs.declared.segment.SegmentFault.{SegmentFault}
 use Rattle.reader.specs.declared.reader.BitReader.{BitReader}
 use Rattle.layouts.specs.Layouts.{Reading, read, failed, values_of, Answers}

@@ -1,10 +1,9 @@
 -- Every layout is read field by field.
-use Rattle.std.proofs.Common.{◌≡◌, ℕ, suc, ◌+◌, ◌≤◌, Bool, true, false, cond, leb, List, [], ◌∷◌, ◌++◌, length, get_or, sym, refl, ap, ◌∙◌, subst, ap₂, inl, inr, append-nil, add-zero, add_assoc, arith}
+use Rattle.std.proofs.Common.{◌≡◌, ℕ, suc, ◌+◌, cond, leb, List, [], ◌∷◌, ◌++◌, length, get_or, sym, refl, ap, ◌∙◌, subst, ap₂, inl, inr, append-nil, add-zero, add_assoc, arith}
 use Rattle.std.proofs.lemmas.Bool.{cases_Bool, leb-true, leb-false}
-use Rattle.faults.specs.declared.segment.Cause.{Cause}
 use Rattle.faults.specs.declared.segment.Cause.TheVariants.{Short, Value}
 use Rattle.layouts.specs.Layouts.{Field, Layout, fields, behind, Reading, read, failed, reading, prefixed, followed, size, value_at, meaning}
-use Rattle.layouts.specs.Laws.{Stand, extent, values_from, standing_table, standing, Taken, NotTaken, AllTaken, Accepted, Refused, ReadsAs, LayoutsRead}
+use Rattle.layouts.specs.Laws.{Stand, extent, values_from, standing_table, standing, Taken, NotTaken, AllTaken, ReadsAs, LayoutsRead}
 use Rattle.layouts.proofs.Tables.{never}
 use Rattle.layouts.proofs.Times.{prefixed_none, prefixed_twice}
 

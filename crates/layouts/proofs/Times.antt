@@ -1,5 +1,5 @@
 -- A layout several times over: how far a loop that reads it has come.
-use Rattle.std.proofs.Common.{◌≡◌, ℕ, zero, suc, ◌+◌, ◌-◌, ◌<◌, ◌≤◌, List, [], ◌∷◌, ◌++◌, sym, refl, ap, ◌∙◌, append_assoc, append-nil, arith}
+use Rattle.std.proofs.Common.{◌≡◌, ℕ, suc, ◌+◌, ◌-◌, ◌<◌, ◌≤◌, List, [], ◌++◌, sym, refl, ap, ◌∙◌, append_assoc, append-nil, arith}
 use Rattle.faults.specs.declared.segment.Cause.{Cause}
 use Rattle.layouts.specs.Layouts.{Layout, Reading, read, failed, prefixed, followed, meaning, behind, times}
 use Rattle.layouts.proofs.Tables.{never}

@@ -3,7 +3,7 @@ use Rattle.std.proofs.Common.{◌≡◌, ℕ, ◌+◌, ◌≤◌, eqb, leb, List
 use Rattle.std.proofs.lemmas.Bool.{cases_Bool}
 use Rattle.faults.specs.declared.decode.DecodeError.{DecodeError}
 use Rattle.headers.specs.Kinds.{main_kind_of}
-use Rattle.headers.specs.Standing.{Contents, cod, coc, qcd, qcc, ppm, ppt, nothing, Item, Ending, by-marker, by-none, refused, Standing, stands, ends, as_read, behind_main, main_standing, KeptOf, item_of, FoundAs}
+use Rattle.headers.specs.Standing.{Contents, cod, coc, qcd, qcc, ppm, ppt, nothing, Item, Ending, by_marker, by_none, refused, Standing, stands, ends, as_read, behind_main, main_standing, KeptOf, item_of, FoundAs}
 use Rattle.headers.specs.Grammar.{MainHeaded}
 use Rattle.headers.specs.declared.kind.Kind.{Kind}
 use Rattle.headers.specs.declared.kind.Kind.TheVariants as kind
@@ -108,9 +108,9 @@ pub header_over :
     → ((g : Segment) → f ≡ Stands g → ⊥) → InHeader d csiz p z n (Err n)
 header_over d d1 csiz p z n a (Stands g) e h k = absurd (k g refl)
 header_over d d1 csiz p z n a Ends e h k =
-    header_ends d csiz p z n (by-marker a.place) (ap (λ (x : List ℕ). main_standing x csiz p) (sym e) ∙ h)
+    header_ends d csiz p z n (by_marker a.place) (ap (λ (x : List ℕ). main_standing x csiz p) (sym e) ∙ h)
 header_over d d1 csiz p z n a NoMarker e h k =
-    header_ends d csiz p z n (by-none a.place) (ap (λ (x : List ℕ). main_standing x csiz p) (sym e) ∙ h)
+    header_ends d csiz p z n (by_none a.place) (ap (λ (x : List ℕ). main_standing x csiz p) (sym e) ∙ h)
 
 -- a segment that stands at p and ends at q
 pub record Stood (d : List ℕ) (csiz p q : ℕ) (g : Segment) : Type 0 where

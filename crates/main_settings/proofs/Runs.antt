@@ -1,7 +1,7 @@
 -- A main header read segment by segment, and a row that its settings are applied to.
 use Rattle.std.proofs.Common.{◌≡◌, ℕ, ◌<◌, ◌≤◌, ◌⊎◌, List, [], ◌∷◌, ◌++◌, length, Ok, sym, refl, ap, ◌∙◌, subst, inl, inr, append_assoc, append-nil, arith}
 use Rattle.reader.specs.declared.reader.BitReader.{BitReader}
-use Rattle.headers.specs.Standing.{Contents, Item, Ending, by-marker, by-none, stands, ends, item_of, main_standing, SetsAs, KeptOf, FoundAs}
+use Rattle.headers.specs.Standing.{Contents, Item, Ending, by_marker, by_none, stands, ends, item_of, main_standing, SetsAs, KeptOf, FoundAs}
 use Rattle.headers.specs.Grammar.{MainHeaded, SetBy, SettingsIn}
 use Rattle.headers.specs.declared.found.Found.{Found}
 use Rattle.headers.specs.declared.found.Found.TheVariants.{Stands, Ends, NoMarker}
@@ -108,9 +108,9 @@ pub run_over :
     (d d1 : List ℕ) (csiz p0 p k : ℕ) (s : ComponentSettings) (a : BitReader) (f : Found) → Run d csiz p0 p k s → d1 ≡ d
     → FoundAs (main_standing d1 csiz p) a (Ok f) → (f ≡ Ends) ⊎ (f ≡ NoMarker) → RowApplied d csiz p0 k s
 run_over d d1 csiz p0 p k s a f r same h (inl is) =
-    run_ends d d1 csiz p0 p k s (by-marker a.place) r same (subst (λ (g : Found). FoundAs (main_standing d1 csiz p) a (Ok g)) is h)
+    run_ends d d1 csiz p0 p k s (by_marker a.place) r same (subst (λ (g : Found). FoundAs (main_standing d1 csiz p) a (Ok g)) is h)
 run_over d d1 csiz p0 p k s a f r same h (inr is) =
-    run_ends d d1 csiz p0 p k s (by-none a.place) r same (subst (λ (g : Found). FoundAs (main_standing d1 csiz p) a (Ok g)) is h)
+    run_ends d d1 csiz p0 p k s (by_none a.place) r same (subst (λ (g : Found). FoundAs (main_standing d1 csiz p) a (Ok g)) is h)
 
 -- one segment more, as it was found
 pub run_found :

@@ -1,25 +1,24 @@
 -- How far the segments behind SIZ have been gone through.
-use Rattle.std.proofs.Common.{◌≡◌, ℕ, ◌+◌, ◌-◌, ◌<◌, ◌≤◌, Bool, true, false, ◌||◌, leb, List, [], ◌∷◌, ◌++◌, length, is_some, Some, None, Ok, Err, Option, Result, sym, refl, ap, ◌∙◌, subst, ap₂, add_assoc, zero-add, arith}
+use Rattle.std.proofs.Common.{◌≡◌, ℕ, ◌+◌, ◌-◌, ◌<◌, ◌≤◌, Bool, true, false, ◌||◌, leb, List, [], ◌∷◌, ◌++◌, length, is_some, Some, None, Ok, Err, Option, Result, sym, refl, ap, ◌∙◌, subst, ap₂, arith}
 use Rattle.std.proofs.lemmas.Bool.{le-leb, lt-leb}
 use Rattle.faults.specs.declared.decode.DecodeError.{DecodeError}
 use Rattle.faults.specs.declared.decode.DecodeError.TheVariants.{Marker}
 use Rattle.faults.specs.declared.decode.MarkerError.TheVariants.{Invalid}
 use Rattle.reader.specs.declared.reader.BitReader.{BitReader}
 use Rattle.settings.specs.Inheritance.{or_else}
-use Rattle.settings.specs.declared.inherit.Setting.{Setting}
 use Rattle.settings.specs.declared.inherit.Setting.TheVariants.{Cod, Coc, Qcd, Qcc}
 use Rattle.headers.specs.declared.found.Segment.{Segment}
 use Rattle.headers.specs.declared.found.Segment.TheVariants.{Sets, Ppm, Ppt, Skipped}
 use Rattle.headers.specs.declared.found.Found.{Found}
 use Rattle.headers.specs.declared.found.Found.TheVariants.{Stands, Ends, NoMarker}
-use Rattle.headers.specs.Standing.{Contents, Item, Ending, by-marker, by-none, refused, Standing, stands, ends, main_standing, KeptOf, FoundAs}
-use Rattle.headers.specs.Grammar.{Headed, packets_by, packets_in}
+use Rattle.headers.specs.Standing.{Contents, Item, Ending, by_marker, by_none, refused, stands, ends, main_standing, KeptOf, FoundAs}
+use Rattle.headers.specs.Grammar.{packets_by, packets_in}
 use Rattle.headers.proofs.Once.{some_main}
 use Rattle.headers.proofs.Onwards.{main_onward}
 use Rattle.headers.proofs.Paths.{Path, path_none, path_more, path_ends, found_stands, found_ends, found_none}
 use Rattle.main_settings.specs.Components.{last_of, of_cod, cod_in, of_qcd, qcd_in}
 use Rattle.main_survey.specs.Main.{too_short}
-use Rattle.main_survey.specs.Passing.{cod_test, qcd_test, packets_of_segment, passed_by, passed_in, PassedTo}
+use Rattle.main_survey.specs.Passing.{cod_test, qcd_test, packets_of_segment, passed_by, PassedTo}
 use Rattle.main_survey.specs.declared.passed.Passed.{Passed}
 
 -- the segments xs from p0 up to p, with what is known of them
@@ -156,7 +155,7 @@ pub run_sot :
     → PassedTo d csiz p0 room (Ok (record { cod = c; qcd = q; packets = n; place = o }))
 run_sot d d1 csiz room p0 p c q n o f a r same h is at =
     let s = found_ends (main_standing d1 csiz p) (main_standing d csiz p) f a (ap (λ (y : List ℕ). main_standing y csiz p) same) h is in
-    run_ends d csiz room p0 p c q n (by-marker a.place) (Ok (record { cod = c; qcd = q; packets = n; place = o })) r s
+    run_ends d csiz room p0 p c q n (by_marker a.place) (Ok (record { cod = c; qcd = q; packets = n; place = o })) r s
     (simp (at, r.has_cod, r.has_qcd, r.many) refl)
 
 pub run_lost :
@@ -164,7 +163,7 @@ pub run_lost :
     → FoundAs (main_standing d1 csiz p) a (Ok f) → f ≡ NoMarker → o ≡ a.place → PassedTo d csiz p0 room (Err (Marker (Invalid o)))
 run_lost d d1 csiz room p0 p c q n o f a r same h is at =
     let s = found_none (main_standing d1 csiz p) (main_standing d csiz p) f a (ap (λ (y : List ℕ). main_standing y csiz p) same) h is in
-    run_ends d csiz room p0 p c q n (by-none a.place) (Err (Marker (Invalid o))) r s (rw at refl)
+    run_ends d csiz room p0 p c q n (by_none a.place) (Err (Marker (Invalid o))) r s (rw at refl)
 
 pub run_refused :
     (d d1 : List ℕ) (csiz room p0 p : ℕ) (c q : Bool) (n : ℕ) (f : DecodeError) (a : Result Passed DecodeError) → Run d csiz room p0 p c q n

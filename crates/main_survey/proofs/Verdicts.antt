@@ -1,5 +1,5 @@
 -- What a main header comes to, by what was gone through and tested.
-use Rattle.std.proofs.Common.{◌≡◌, ℕ, ◌+◌, ◌*◌, ◌<◌, ◌≤◌, Bool, true, false, cond, not, leb, List, is_some, Some, None, Ok, Err, Option, Result, sym, refl, ap, ◌∙◌, subst, arith, Bor}
+use Rattle.std.proofs.Common.{◌≡◌, ℕ, ◌+◌, ◌*◌, ◌<◌, Bool, true, false, cond, not, leb, List, is_some, Some, None, Ok, Err, Option, Result, sym, refl, ap, ◌∙◌, subst, arith, Bor}
 use Rattle.std.proofs.lemmas.Bool.{leb-true}
 use Rattle.faults.specs.declared.decode.DecodeError.{DecodeError}
 use Rattle.reader.specs.Reads.{bytes_of}
@@ -7,14 +7,14 @@ use Rattle.reader.specs.declared.reader.BitReader.{BitReader}
 use Rattle.segments.specs.Siz.{Siz, Outcome, accepted, siz_outcome, size_of, grid_in, tiles_of, component_at, ReadsSize}
 use Rattle.segments.specs.declared.size_data.SizeData.{SizeData}
 use Rattle.segments.specs.Siz as siz
-use Rattle.headers.specs.Standing.{Item, Ending, by-marker, by-none, refused, main_standing}
+use Rattle.headers.specs.Standing.{Item, Ending, by_marker, by_none, refused, main_standing}
 use Rattle.headers.specs.Grammar.{MainHeaded, packets_in}
 use Rattle.headers.proofs.Once.{one_header}
 use Rattle.main_settings.specs.Components.{last_of, cod_in, qcd_in, component_refusal, Tested}
 use Rattle.main_settings.specs.Settled.{ComponentsTested}
 use Rattle.main_survey.specs.Main.{Header, too_short, room_for, lacking, at_sot, unless, ended, concluded, WithRoom, BehindSiz, ComesTo}
 use Rattle.main_survey.specs.Laws.{OneOutcome, Accepted, ReadAgain}
-use Rattle.main_survey.specs.Passing.{passed_by, passed_in, PassedTo, SotTested}
+use Rattle.main_survey.specs.Passing.{passed_by, PassedTo, SotTested}
 use Rattle.main_survey.specs.declared.passed.Passed.{Passed}
 use Rattle.main_survey.specs.declared.room.Room.{Room}
 
@@ -54,9 +54,9 @@ passed_case_lem :
     (t : Bool) (s : Siz) (b : ℕ) (xs : List Item) (e : Ending) (m : Passed) → Ok m ≡ passed_case t xs e
     → concluded_case t s b xs e ≡ unless (lacking m.cod m.qcd m.place (component_refusal s.csiz m.place xs)) (header_by s b m)
 passed_case_lem false s b xs e m h = never m too_short h
-passed_case_lem true s b xs (by-none q) m h = never m _ h
+passed_case_lem true s b xs (by_none q) m h = never m _ h
 passed_case_lem true s b xs (refused f) m h = never m f h
-passed_case_lem true s b xs (by-marker q) m h =
+passed_case_lem true s b xs (by_marker q) m h =
     let n : Passed = record { cod = is_some (last_of cod_in xs); qcd = is_some (last_of qcd_in xs); packets = packets_in xs; place = q } in
     let same : n ≡ m = cc in
     ap (λ (z : Passed). unless (lacking z.cod z.qcd z.place (component_refusal s.csiz z.place xs)) (header_by s b z)) same
@@ -64,9 +64,9 @@ passed_case_lem true s b xs (by-marker q) m h =
 refused_case :
     (t : Bool) (s : Siz) (b : ℕ) (xs : List Item) (e : Ending) (f : DecodeError) → Err f ≡ passed_case t xs e → concluded_case t s b xs e ≡ Err f
 refused_case false s b xs e f h = let same : too_short ≡ f = cc in ap (λ (g : DecodeError). Err g) same
-refused_case true s b xs (by-none q) f h = cc
+refused_case true s b xs (by_none q) f h = cc
 refused_case true s b xs (refused g) f h = cc
-refused_case true s b xs (by-marker q) f h = never _ f (sym h)
+refused_case true s b xs (by_marker q) f h = never _ f (sym h)
 
 -- the segments behind SIZ are refused
 segments_refused :
@@ -184,9 +184,9 @@ again_case :
     (t : Bool) (d : List ℕ) (p : ℕ) (r : Room) (s : Siz) (b : ℕ) (xs : List Item) (e : Ending) (h : Header) → leb (packets_in xs) r.packets ≡ t
     → siz_outcome d p ≡ accepted s b → MainHeaded d s.csiz b xs e → Ok h ≡ concluded_case t s b xs e → Accepted d p r h
 again_case false d p r s b xs e h fit is headed at = never h too_short at
-again_case true d p r s b xs (by-none q) h fit is headed at = never h _ at
+again_case true d p r s b xs (by_none q) h fit is headed at = never h _ at
 again_case true d p r s b xs (refused f) h fit is headed at = never h f at
-again_case true d p r s b xs (by-marker q) h fit is headed at =
+again_case true d p r s b xs (by_marker q) h fit is headed at =
     let g : Header = record { size = s; segments = b; packets = packets_in xs; place = q } in
     let t = tested_case (at_sot s.csiz xs q) g h at in
     let all : Accepted d p r g = record { xs = xs; siz = is; headed = headed; complete = t.0; packets = refl; fits = leb-true (packets_in xs) r.packets fit } in

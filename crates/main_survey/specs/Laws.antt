@@ -2,7 +2,7 @@
 use Rattle.std.specs.Prelude.{◌≡◌, ℕ, ◌≤◌, List, None, Ok, Result}
 use Rattle.faults.specs.declared.decode.DecodeError.{DecodeError}
 use Rattle.segments.specs.Siz.{accepted, siz_outcome}
-use Rattle.headers.specs.Standing.{Item, by-marker}
+use Rattle.headers.specs.Standing.{Item, by_marker}
 use Rattle.headers.specs.Grammar.{MainHeaded, packets_in}
 use Rattle.main_survey.specs.Main.{Header, ComesTo, at_sot}
 use Rattle.main_survey.specs.declared.room.Room.{Room}
@@ -16,7 +16,7 @@ OneOutcome =
 pub record Accepted (d : List ℕ) (p : ℕ) (r : Room) (h : Header) : Type 0 where
   pub xs : List Item
   pub siz : siz_outcome d p ≡ accepted h.size h.segments
-  pub headed : MainHeaded d h.size.csiz h.segments xs (by-marker h.place)
+  pub headed : MainHeaded d h.size.csiz h.segments xs (by_marker h.place)
   pub complete : at_sot h.size.csiz xs h.place ≡ None
   pub packets : packets_in xs ≡ h.packets
   pub fits : h.packets ≤ r.packets

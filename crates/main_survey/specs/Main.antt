@@ -6,7 +6,7 @@ use Rattle.faults.specs.declared.decode.MarkerError.TheVariants.{Invalid, Missin
 use Rattle.faults.specs.declared.decode.BookError.TheVariants.{TableTooShort}
 use Rattle.segments.specs.Siz.{Siz, Outcome, accepted, siz_outcome, size_of, grid_in, tiles_of, component_at}
 use Rattle.segments.specs.Siz as siz
-use Rattle.headers.specs.Standing.{Item, Ending, by-marker, by-none, refused}
+use Rattle.headers.specs.Standing.{Item, Ending, by_marker, by_none, refused}
 use Rattle.headers.specs.Grammar.{MainHeaded, packets_in}
 use Rattle.main_settings.specs.Components.{last_of, cod_in, qcd_in, component_refusal}
 use Rattle.main_survey.specs.declared.room.Room.{Room}
@@ -41,8 +41,8 @@ unless (Some f) h = Err f
 
 -- what the segments xs behind SIZ, from the place b on, come to by their ending
 abbrev pub ended : Siz → ℕ → List Item → Ending → Result Header DecodeError
-ended s b xs (by-marker q) = unless (at_sot s.csiz xs q) (record { size = s; segments = b; packets = packets_in xs; place = q })
-ended s b xs (by-none q) = Err (Marker (Invalid q))
+ended s b xs (by_marker q) = unless (at_sot s.csiz xs q) (record { size = s; segments = b; packets = packets_in xs; place = q })
+ended s b xs (by_none q) = Err (Marker (Invalid q))
 ended s b xs (refused f) = Err f
 
 -- packets that pass the room are refused at their segment, before anything behind it

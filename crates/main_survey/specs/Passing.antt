@@ -5,9 +5,8 @@ use Rattle.faults.specs.declared.decode.DecodeError.TheVariants.{Marker}
 use Rattle.faults.specs.declared.decode.MarkerError.TheVariants.{Invalid}
 use Rattle.headers.specs.declared.found.Segment.{Segment}
 use Rattle.headers.specs.declared.found.Segment.TheVariants.{Sets, Ppm, Ppt, Skipped}
-use Rattle.settings.specs.declared.inherit.Setting.{Setting}
 use Rattle.settings.specs.declared.inherit.Setting.TheVariants.{Cod, Coc, Qcd, Qcc}
-use Rattle.headers.specs.Standing.{Item, Ending, by-marker, by-none, refused}
+use Rattle.headers.specs.Standing.{Item, Ending, by_marker, by_none, refused}
 use Rattle.headers.specs.Grammar.{MainHeaded, packets_in}
 use Rattle.main_settings.specs.Components.{last_of, cod_in, qcd_in, component_refusal, Tested}
 use Rattle.main_survey.specs.Main.{too_short, lacking}
@@ -40,9 +39,9 @@ packets_of_segment Skipped = 0
 
 -- what stood there when the segments xs end by SOT
 abbrev pub passed_by : List Item → Ending → Result Passed DecodeError
-passed_by xs (by-marker q) =
+passed_by xs (by_marker q) =
     Ok (record { cod = is_some (last_of cod_in xs); qcd = is_some (last_of qcd_in xs); packets = packets_in xs; place = q })
-passed_by xs (by-none q) = Err (Marker (Invalid q))
+passed_by xs (by_none q) = Err (Marker (Invalid q))
 passed_by xs (refused f) = Err f
 
 abbrev pub passed_in : ℕ → List Item → Ending → Result Passed DecodeError

@@ -2,13 +2,12 @@
 use Rattle.std.proofs.Common.{◌≡◌, ℕ, ◌+◌, ◌<◌, ◌≤◌, Bool, List, [], ◌∷◌, ◌++◌, length, Ok, Result, sym, refl, ap, ◌∙◌, subst, append_assoc, append-nil, arith, lit≤}
 use Rattle.faults.specs.declared.decode.DecodeError.{DecodeError}
 use Rattle.reader.specs.declared.reader.BitReader.{BitReader}
-use Rattle.settings.specs.declared.inherit.Setting.{Setting}
 use Rattle.settings.specs.declared.inherit.Setting.TheVariants.{Cod, Coc, Qcd, Qcc}
 use Rattle.headers.specs.declared.found.Found.{Found}
 use Rattle.headers.specs.declared.found.Found.TheVariants.{Stands, Ends, NoMarker}
 use Rattle.headers.specs.declared.found.Segment.{Segment}
 use Rattle.headers.specs.declared.found.Segment.TheVariants.{Sets, Ppm, Ppt, Skipped}
-use Rattle.headers.specs.Standing.{Item, Ending, by-marker, by-none, stands, ends, part_standing, KeptOf, item_of, FoundAs}
+use Rattle.headers.specs.Standing.{Item, Ending, by_marker, by_none, stands, ends, part_standing, KeptOf, item_of, FoundAs}
 use Rattle.headers.specs.Grammar.{PartHeaded, headers_by, headers_in}
 use Rattle.headers.proofs.Onwards.{part_onward}
 use Rattle.part_survey.specs.declared.survey.HeaderEnd.{HeaderEnd}
@@ -88,7 +87,7 @@ pub run_closed :
 run_closed d d1 csiz packets strict p0 p n q a f r same found is at =
     let t : FoundAs (part_standing d1 csiz packets strict p) a (Ok Ends) =
     subst (λ (y : Found). FoundAs (part_standing d1 csiz packets strict p) a (Ok y)) is found in
-    run_ends d d1 csiz packets strict p0 p n (by-marker a.place) (Ok (Closed q n)) r same t (rw at refl)
+    run_ends d d1 csiz packets strict p0 p n (by_marker a.place) (Ok (Closed q n)) r same t (rw at refl)
 
 pub run_cut :
     (d d1 : List ℕ) (csiz : ℕ) (packets strict : Bool) (p0 p n q : ℕ) (a : BitReader) (f : Found)
@@ -97,4 +96,4 @@ pub run_cut :
 run_cut d d1 csiz packets strict p0 p n q a f r same found is at =
     let t : FoundAs (part_standing d1 csiz packets strict p) a (Ok NoMarker) =
     subst (λ (y : Found). FoundAs (part_standing d1 csiz packets strict p) a (Ok y)) is found in
-    run_ends d d1 csiz packets strict p0 p n (by-none a.place) (Ok (CutShort q)) r same t (rw at refl)
+    run_ends d d1 csiz packets strict p0 p n (by_none a.place) (Ok (CutShort q)) r same t (rw at refl)

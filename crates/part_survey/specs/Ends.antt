@@ -1,7 +1,7 @@
 -- How the end of a tile-part header is answered.
 use Rattle.std.specs.Prelude.{◌≡◌, ℕ, Bool, List, Ok, Err, Result}
 use Rattle.faults.specs.declared.decode.DecodeError.{DecodeError}
-use Rattle.headers.specs.Standing.{Item, Ending, by-marker, by-none, refused}
+use Rattle.headers.specs.Standing.{Item, Ending, by_marker, by_none, refused}
 use Rattle.headers.specs.Grammar.{PartHeaded, headers_in}
 use Rattle.headers.specs.declared.found.Segment.{Segment}
 use Rattle.headers.specs.declared.found.Segment.TheVariants.{Sets, Ppm, Ppt, Skipped}
@@ -16,8 +16,8 @@ ppt_count_of Skipped = 0
 
 -- an ending behind n PPT segments
 abbrev pub ended : ℕ → Ending → Result HeaderEnd DecodeError
-ended n (by-marker q) = Ok (Closed q n)
-ended n (by-none q) = Ok (CutShort q)
+ended n (by_marker q) = Ok (Closed q n)
+ended n (by_none q) = Ok (CutShort q)
 ended n (refused f) = Err f
 
 -- r answers the header from p on

@@ -8,7 +8,7 @@ use Rattle.reader.specs.Bytes.{byte_at, marker_at}
 use Rattle.layouts.specs.Layouts.{Reading, read, failed, fields, meaning}
 use Rattle.packed.specs.Sot.{sot_table}
 use Rattle.packed.specs.declared.sot.TilePartHeader.{TilePartHeader}
-use Rattle.headers.specs.Standing.{Item, Ending, by-marker, by-none, refused}
+use Rattle.headers.specs.Standing.{Item, Ending, by_marker, by_none, refused}
 use Rattle.headers.specs.Grammar.{PartHeaded, headers_in}
 use Rattle.part_survey.specs.declared.survey.TilePartEnd.TheVariants as end
 use Rattle.part_survey.specs.declared.survey.TilePartSurvey.{TilePartSurvey}
@@ -62,8 +62,8 @@ bounded d p strict s n q m =
 
 -- what a tile-part comes to, by its start, the number of its PPT segments and the end of its header
 abbrev pub surveyed : List ℕ → ℕ → Bool → TilePartHeader → ℕ → Ending → Result TilePartSurvey DecodeError
-surveyed d p strict s n (by-marker q) = bounded d p strict s n q (follow d (p + 12) s.psot)
-surveyed d p strict s n (by-none q) = Ok (is_cut_short s q)
+surveyed d p strict s n (by_marker q) = bounded d p strict s n q (follow d (p + 12) s.psot)
+surveyed d p strict s n (by_none q) = Ok (is_cut_short s q)
 surveyed d p strict s n (refused f) = Err f
 
 abbrev pub FromStart :

@@ -1,5 +1,5 @@
 -- The start of a codestream, read; and its tiles.
-use Rattle.std.proofs.Common.{◌≡◌, ℕ, ◌+◌, ◌*◌, ◌<◌, true, List, Some, None, Ok, Err, Option, Result, sym, refl, ap, ◌∙◌, subst, ap₂, arith}
+use Rattle.std.proofs.Common.{◌≡◌, ℕ, ◌+◌, ◌*◌, ◌<◌, true, List, Some, Ok, Err, Option, Result, sym, ap, ◌∙◌, subst, ap₂}
 use Rattle.faults.specs.declared.decode.DecodeError.{DecodeError}
 use Rattle.reader.specs.Bytes.{marker_at}
 use Rattle.reader.specs.Reads.{bytes_of}

@@ -8,7 +8,7 @@ use Rattle.rect.specs.Numbers.{ceil}
 use Rattle.rect.specs.Rects.{region}
 use Rattle.rect.specs.Spans.{Rect, rect, area, shrink}
 use Rattle.rect.specs.Sums.{total, ExactlyOne}
-use Rattle.segments.specs.Siz.{Grid, Siz, Outcome, accepted, refused, siz_outcome, size_of, grid_in, component_at, Hands}
+use Rattle.segments.specs.Siz.{Grid, Outcome, accepted, refused, siz_outcome, size_of, grid_in, component_at, Hands}
 use Rattle.segments.specs.declared.size_data.SizeData.{SizeData}
 use Rattle.geometry.specs.TileGrid.{Axis, image, tiles, component_tiles}
 use Rattle.geometry.specs.Tiles.{axis, image_of}

@@ -1,5 +1,5 @@
 -- The QCD and QCC marker segments (T.800 A.6.4 and A.6.5, Tables A.27 to A.31).
-use Rattle.std.specs.Prelude.{◌≡◌, ℕ, zero, suc, ◌+◌, ◌-◌, ◌/◌, ◌%◌, ◌<◌, ◌≤◌, Bool, true, cond, ◌&&◌, List, [], ◌∷◌, length, drop, Some, None, Option, ◌==◌, nat_le, nat_lt, slice_index, slice_index_or}
+use Rattle.std.specs.Prelude.{◌≡◌, ℕ, zero, suc, ◌+◌, ◌-◌, ◌/◌, ◌%◌, ◌<◌, ◌≤◌, Bool, cond, ◌&&◌, List, [], ◌∷◌, length, drop, Some, None, Option, ◌==◌, nat_le, nat_lt, slice_index, slice_index_or}
 use Rattle.layouts.specs.Indices.{index_width, indexed}
 use Rattle.layouts.specs.Layouts.{Layout, Width, Field, one, two, any, at_least, field, fields, behind, times, size}
 use Rattle.quantization.specs.declared.info.QuantizationStyle.{QuantizationStyle}

@@ -1,5 +1,5 @@
 -- The bytes of a part of a list.
-use Rattle.std.proofs.Common.{◌≡◌, ℕ, ◌+◌, ◌*◌, ◌<◌, ◌≤◌, List, length, get_or, take, drop, ap, ◌∙◌, add-zero, add_assoc, arith, lit<, length-drop, length-take-le, get_or-drop, get_or-take}
+use Rattle.std.proofs.Common.{◌≡◌, ℕ, ◌+◌, ◌<◌, ◌≤◌, List, length, get_or, take, drop, ap, ◌∙◌, add-zero, add_assoc, arith, lit<, length-drop, length-take-le, get_or-drop, get_or-take}
 use Rattle.reader.specs.Bytes.{byte_at, word_at, long_at}
 
 pub part_length : (d s : List ℕ) (p n : ℕ) → p + n ≤ length d → s ≡ take n (drop p d) → length s ≡ n

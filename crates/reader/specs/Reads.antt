@@ -3,7 +3,7 @@ use Rattle.std.specs.Prelude.{◌≡◌, ℕ, ◌+◌, ◌-◌, ◌<◌, ◌≤�
 use Rattle.std.specs.Borrow.{Bor}
 use Rattle.faults.specs.declared.segment.ReadFault.{ReadFault}
 use Rattle.faults.specs.declared.decode.MarkerError.{MarkerError}
-use Rattle.faults.specs.declared.decode.MarkerError.TheVariants.{Invalid, Unsupported, Expected, Missing, ParseFailure}
+use Rattle.faults.specs.declared.decode.MarkerError.TheVariants.{Invalid}
 use Rattle.reader.specs.declared.reader.BitReader.{BitReader}
 use Rattle.reader.specs.Bytes.{IsPartOf, marker_at}
 

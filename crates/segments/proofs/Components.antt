@@ -1,5 +1,5 @@
 -- The component fields of SIZ: how far a loop that reads them has come, and that they are the bytes that they are read from.
-use Rattle.std.proofs.Common.{◌≡◌, ℕ, zero, suc, ◌+◌, ◌*◌, ◌<◌, ◌≤◌, Bool, true, false, ◌&&◌, ltb, leb, List, [], ◌∷◌, ◌++◌, length, get_or, take, drop, Some, None, Option, sym, refl, ap, ◌∙◌, subst, ap₂, inl, inr, add-one, arith, length-append, drop-cons}
+use Rattle.std.proofs.Common.{◌≡◌, ℕ, zero, suc, ◌+◌, ◌*◌, ◌<◌, ◌≤◌, Bool, true, false, ◌&&◌, ltb, leb, List, [], ◌∷◌, ◌++◌, length, get_or, Some, None, Option, sym, refl, ap, ◌∙◌, subst, ap₂, inl, inr, add-one, arith, length-append, drop-cons}
 use Rattle.std.proofs.lemmas.List.{get_or_append_left, get_or-append-add}
 use Rattle.std.proofs.lemmas.Bool.{cases_eq, le-leb, lt-ltb}
 use Rattle.reader.proofs.Parts.{part_at, part_first}
@@ -10,7 +10,7 @@ use Rattle.reader.specs.Bytes.{byte_at, part}
 use Rattle.layouts.specs.Layouts.{Reading, read, failed, reading, meaning, field, fields, one, any, values_of}
 use Rattle.segments.specs.Siz.{component_table, components_layout, precise, precision_of, sampled, component_at, MadeComponent, Says, Hands, HandsAt}
 use Rattle.layouts.proofs.Tables.{table_read, table_inside, first_inside, first_admitted}
-use Rattle.layouts.proofs.Times.{Run, Split, followed_read, run_none, run_more, run_failed, run_all}
+use Rattle.layouts.proofs.Times.{Run, followed_read, run_none, run_more, run_failed, run_all}
 use Rattle.layouts.proofs.Exits.{is_read}
 
 part_more : (n : ℕ) (d : List ℕ) (p : ℕ) → p < length d → part (suc n) d p ≡ byte_at d p ∷ part n d (p + 1)

@@ -1,5 +1,5 @@
 -- The three sections of SIZ, joined.
-use Rattle.std.proofs.Common.{◌≡◌, ℕ, ◌+◌, ◌*◌, ◌<◌, Bool, true, false, List, [], ◌∷◌, ◌++◌, length, get_or, drop, Some, None, Ok, Err, Option, Result, sym, refl, ap, ◌∙◌, subst, ap₂, append_assoc, arith, length-append}
+use Rattle.std.proofs.Common.{◌≡◌, ℕ, ◌+◌, ◌*◌, Bool, true, false, List, [], ◌++◌, length, get_or, drop, Some, None, Ok, Err, Option, Result, sym, refl, ap, ◌∙◌, subst, ap₂, append_assoc, arith, length-append}
 use Rattle.std.proofs.lemmas.List.{get_or_append_left, get_or-append_right}
 use Rattle.std.proofs.lemmas.List.Prefix.{front_rest}
 use Rattle.layouts.specs.Layouts.{read, reading, meaning, values_of}
@@ -13,7 +13,7 @@ use Rattle.segments.specs.declared.fields.SizeFields.{SizeFields}
 use Rattle.segments.specs.declared.size_data.SizeData.{SizeData}
 use Rattle.segments.proofs.Components.{components_read, component_there}
 use Rattle.layouts.proofs.Tables.{table_read}
-use Rattle.layouts.proofs.Times.{Split, followed_read}
+use Rattle.layouts.proofs.Times.{followed_read}
 
 sections_read :
     (d : List ℕ) (p q r s n : ℕ) (is ts cs : List ℕ) → reading image_table d p [] ≡ read is q → reading tile_table d q [] ≡ read ts r

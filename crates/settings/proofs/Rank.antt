@@ -1,5 +1,5 @@
 -- Segments applied one after another leave what the last of each kind says.
-use Rattle.std.proofs.Common.{◌≡◌, ℕ, ◌+◌, ◌*◌, ◌/◌, ◌%◌, Bool, true, false, cond, ◌||◌, eqb, List, [], ◌∷◌, is_some, Some, None, Option, sym, refl, ap, ◌∙◌, arith}
+use Rattle.std.proofs.Common.{◌≡◌, ℕ, ◌/◌, ◌%◌, Bool, true, false, cond, ◌||◌, eqb, List, [], ◌∷◌, is_some, Some, None, Option, sym, refl, ap, ◌∙◌, arith}
 use Rattle.coding.specs.declared.parameters.CodingStyleComponent.{CodingStyleComponent}
 use Rattle.coding.specs.declared.parameters.CodingStyleDefault.{CodingStyleDefault}
 use Rattle.coding.specs.declared.styles.CodingStyleFlags.{CodingStyleFlags}

@@ -2,7 +2,6 @@
 use Rattle.std.specs.Prelude.{◌≡◌, ℕ, ◌+◌, ◌*◌, ◌/◌, ◌%◌, Bool, true, false, cond, ◌||◌, List, [], ◌∷◌, is_some, Some, None, Option, ◌==◌}
 use Rattle.coding.specs.declared.parameters.CodingStyleComponent.{CodingStyleComponent}
 use Rattle.coding.specs.declared.parameters.CodingStyleDefault.{CodingStyleDefault}
-use Rattle.coding.specs.declared.parameters.CodingStyleParameters.{CodingStyleParameters}
 use Rattle.coding.specs.declared.styles.CodingStyleFlags.{CodingStyleFlags}
 use Rattle.quantization.specs.declared.info.QuantizationInfo.{QuantizationInfo}
 use Rattle.settings.specs.declared.rows.ComponentSettings.{ComponentSettings}

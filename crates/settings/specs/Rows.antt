@@ -6,7 +6,6 @@ use Rattle.coding.specs.declared.styles.ProgressionOrder.TheVariants.{LayerResol
 use Rattle.coding.specs.declared.styles.WaveletTransform.TheVariants.{Irreversible97}
 use Rattle.quantization.specs.declared.info.QuantizationInfo.{QuantizationInfo}
 use Rattle.quantization.specs.declared.info.QuantizationStyle.TheVariants.{NoQuantization}
-use Rattle.quantization.specs.declared.info.StepSize.{StepSize}
 use Rattle.segments.specs.declared.size_data.ComponentSizeInfo.{ComponentSizeInfo}
 use Rattle.settings.specs.declared.rows.ComponentSettings.{ComponentSettings}
 use Rattle.settings.specs.declared.rows.TileRow.{TileRow}

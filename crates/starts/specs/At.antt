@@ -1,5 +1,5 @@
 -- What the rows of the tables have of a tile, a component, and a component in a tile.
-use Rattle.std.specs.Prelude.{ℕ, ◌+◌, ◌*◌, List, map, slice_index, slice_index_or}
+use Rattle.std.specs.Prelude.{ℕ, ◌+◌, ◌*◌, map, slice_index, slice_index_or}
 use Rattle.rect.specs.Rects.{region, nowhere}
 use Rattle.rect.specs.Spans.{Rect}
 use Rattle.blocks.specs.Components.{Coding}

@@ -1,10 +1,10 @@
-use Rattle.std.proofs.Common.{refl, ◌∙◌, arith, rules}
+use Rattle.std.proofs.Common.{refl, arith}
 use Rattle.layouts.specs.Layouts.{here}
 use Rattle.coding.specs.Coding.{tile_coc_layout}
 use Rattle.headers.specs.declared.found.Segment.TheVariants.{Sets}
 use Rattle.settings.specs.declared.inherit.Setting.TheVariants.{Coc}
 use Rattle.headers.specs.Standing as standing
-use Rattle.headers.proofs.Founds.{image_found, image_refused}
+use Rattle.headers.proofs.Founds.{image_found}
 use Rattle.headers.proofs.contents.tile_coc_found.Goals as goal
 
 pub returns : goal.returns

@@ -1,4 +1,4 @@
-use Rattle.std.proofs.Common.{false, refl, ◌∙◌, arith, rules}
+use Rattle.std.proofs.Common.{false, refl, arith}
 use Rattle.layouts.specs.Layouts.{here}
 use Rattle.quantization.specs.Quantization.{qcc_layout}
 use Rattle.headers.specs.declared.found.Segment.TheVariants.{Sets}

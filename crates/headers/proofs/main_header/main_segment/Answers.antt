@@ -1,4 +1,4 @@
-use Rattle.std.proofs.Common.{◌≡◌, ℕ, true, List, sym, ap, ◌∙◌, Bor}
+use Rattle.std.proofs.Common.{ℕ, true, List, sym, ap, ◌∙◌, Bor}
 use Rattle.coding.specs.Coding.{cod_layout, coc_layout}
 use Rattle.quantization.specs.Quantization.{qcc_layout}
 use Rattle.headers.specs.Standing as standing

@@ -1,4 +1,4 @@
-use Rattle.std.proofs.Common.{Some, None, sym, refl}
+use Rattle.std.proofs.Common.{Some, refl}
 use Rattle.headers.specs.Kinds.{part_kind_of}
 use Rattle.headers.specs.Standing.{behind_part, part_standing}
 use Rattle.headers.proofs.Founds.{found_as, part_none, part_standing_lem}

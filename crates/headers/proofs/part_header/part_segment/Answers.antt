@@ -1,4 +1,4 @@
-use Rattle.std.proofs.Common.{◌≡◌, ℕ, ◌+◌, false, cond, List, sym, ap, ◌∙◌, Bor}
+use Rattle.std.proofs.Common.{ℕ, ◌+◌, false, cond, List, sym, ap, ◌∙◌, Bor}
 use Rattle.coding.specs.Coding.{cod_layout, tile_coc_layout}
 use Rattle.layouts.specs.Layouts.{meaning}
 use Rattle.packed.specs.Ppt.{ppt_layout}

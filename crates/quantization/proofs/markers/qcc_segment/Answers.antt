@@ -1,4 +1,4 @@
-use Rattle.std.proofs.Common.{◌≡◌, ◌+◌, true, [], ◌∷◌, refl, ap, ◌∙◌, arith, rules}
+use Rattle.std.proofs.Common.{◌≡◌, ◌+◌, true, [], ◌∷◌, ap, rules}
 use Rattle.layouts.specs.Indices.{indexed}
 use Rattle.quantization.proofs.Joins.{qcc_exit}
 use Rattle.quantization.proofs.markers.qcc_segment.Goals as goal

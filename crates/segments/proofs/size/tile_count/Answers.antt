@@ -1,4 +1,4 @@
-use Rattle.std.proofs.Common.{◌≡◌, ℕ, ◌+◌, ◌-◌, ◌/◌, ◌%◌, min, ap, ◌∙◌}
+use Rattle.std.proofs.Common.{ℕ, ◌+◌, ◌-◌, ◌/◌, ◌%◌, min, ap, ◌∙◌}
 use Rattle.rect.proofs.Ceil.{ceil_code}
 use Rattle.segments.proofs.size.tile_count.Goals as goal
 
