@@ -1,7 +1,8 @@
 -- The code-blocks of a rectangle.
 use Rattle.std.proofs.Common.{◌≡◌, ℕ, ◌+◌, ◌-◌, ◌*◌, ◌/◌, ◌<◌, ◌≤◌, max, Bool, true, false, cond, ltb, List, [], ◌∷◌, length, get_or, filter, sym, refl, ap, ◌∙◌, ap₂, mul-le-mul_right, mod-lt, mul_comm, mul-pos, div-add-mod', div-mul-le_self, arith, length-append}
-use Rattle.std.specs.List.{range_with_len, AllByRecursion as All}
-use Rattle.std.proofs.ByRecursion.{All-get_or}
+use Rattle.std.specs.Prelude.{All}
+use Rattle.std.specs.List.{range_with_len}
+use Rattle.std.proofs.lemmas.List.Elements.{All-cons, All-get_or, All-head, All-nil, All-tail}
 use Rattle.std.proofs.lemmas.Bool.{le-ltb, lt-ltb, ltb-false, ltb-true}
 use Rattle.std.proofs.lemmas.Bool.Decides.{nat_tests}
 use Rattle.rect.specs.Numbers.{ceil}
@@ -113,11 +114,13 @@ celled : (w : ℕ) (s : Span) (i : ℕ) → Celled w (meet (cell 0 w i) s)
 celled w s i = record { number = i; begins = omega arith; ends = omega arith }
 
 full : (w h : ℕ) (l : List Rect) → All (Placed w h) l → All (Proper w h) (filter filled l)
-full w h [] a = tt
-full w h (r ∷ l) a = go (filled r) refl (full w h l a.1)
+full w h [] a = All-nil (Proper w h)
+full w h (r ∷ l) a = go (filled r) refl (full w h l (All-tail (Placed w h) r l a))
   where
     go : (t : Bool) → filled r ≡ t → All (Proper w h) (filter filled l) → All (Proper w h) (cond t (r ∷ filter filled l) (filter filled l))
-    go true e rest = (record { wide = grind (arith, nat_tests); high = grind (arith, nat_tests); column = a.0.0; row = a.0.1 }, rest)
+    go true e rest =
+        let p = All-head (Placed w h) r l a in
+        All-cons (Proper w h) r (filter filled l) (record { wide = grind (arith, nat_tests); high = grind (arith, nat_tests); column = p.0; row = p.1 }) rest
     go false e rest = rest
 
 pub blocks_proper : (w h : ℕ) (r : Rect) → All (Proper w h) (blocks w h r)

@@ -1,9 +1,10 @@
 -- What a test of columns and rows keeps of a list row by row.
 use Rattle.std.proofs.Common.{◌≡◌, ℕ, zero, suc, ◌+◌, ◌-◌, ◌<◌, ◌≤◌, max, Bool, true, false, cond, ◌⊎◌, List, [], ◌∷◌, ◌++◌, map, filter, sym, refl, ap, ◌∙◌, ap₂, inl, inr, arith}
-use Rattle.std.specs.List.{range_with_len, AllByRecursion as All}
+use Rattle.std.specs.Prelude.{All}
+use Rattle.std.specs.List.{range_with_len}
 use Rattle.std.proofs.lemmas.List.FromFn.{fill_by_all, get_or-range_with_len, length-range_with_len}
 use Rattle.std.proofs.lemmas.List.Elements.{filter-append}
-use Rattle.std.proofs.ByRecursion.{All-append}
+use Rattle.std.proofs.lemmas.List.Elements.{All-append, All-cons, All-nil}
 use Rattle.std.proofs.lemmas.Bool.{cases_lt, cond-false, cond-true}
 use Rattle.rect.specs.Sums.{each, product}
 
@@ -78,13 +79,13 @@ shifted f a n b m =
 
 -- what holds of every item
 all_row : {A B : Type 0} (P : B → Type 0) (f : A → B) → ((a : A) → P (f a)) → (l : List A) → All P (map f l)
-all_row P f h [] = tt
-all_row P f h (a ∷ l) = (h a, all_row P f h l)
+all_row P f h [] = All-nil P
+all_row P f h (a ∷ l) = All-cons P (f a) (map f l) (h a) (all_row P f h l)
 
 pub all_product : {A B C : Type 0} (P : C → Type 0) (f : A → B → C) → ((a : A) (b : B) → P (f a b)) → (l : List A) (m : List B) → All P (product f l m)
-all_product P f h l [] = tt
+all_product P f h l [] = All-nil P
 all_product P f h l (b ∷ m) = All-append P (map (λ a. f a b) l) (product f l m) (all_row P (λ a. f a b) (λ a. h a b) l) (all_product P f h l m)
 
 pub all_each : {A B : Type 0} (P : B → Type 0) (g : A → List B) → ((a : A) → All P (g a)) → (l : List A) → All P (each g l)
-all_each P g f [] = tt
+all_each P g f [] = All-nil P
 all_each P g f (a ∷ l) = All-append P (g a) (each g l) (f a) (all_each P g f l)

@@ -1,6 +1,6 @@
 -- The code-blocks of a sub-band, a resolution, a component tile and a component.
-use Rattle.std.specs.Prelude.{◌≡◌, ℕ, ◌+◌, ◌*◌, ◌^◌, ◌<◌, ◌≤◌, true, List, length, None}
-use Rattle.std.specs.List.{range_with_len, AllByRecursion as All}
+use Rattle.std.specs.Prelude.{◌≡◌, ℕ, ◌+◌, ◌*◌, ◌^◌, ◌<◌, ◌≤◌, true, List, length, None, All}
+use Rattle.std.specs.List.{range_with_len}
 use Rattle.rect.specs.Rects.{region}
 use Rattle.rect.specs.Spans.{Rect, area, meets}
 use Rattle.rect.specs.Sums.{each, total, Partition}

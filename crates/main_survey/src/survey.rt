@@ -2,9 +2,9 @@ ghost use Rattle.main_survey.specs.Main.{ComesTo, CountedIn, header_of, room_for
 ghost use Rattle.main_survey.specs.Passing.{SotTested};
 ghost use Rattle.std.specs.Prelude.{◌≡◌};
 
+use crate::header_segments::main_segments;
 use crate::passed::Passed;
 use crate::room::{MainSurvey, Room};
-use crate::segments::main_segments;
 use faults::decode::{BookError, DecodeError, MarkerError};
 use layouts::markers::{COD, QCD};
 use main_settings::validate_components;

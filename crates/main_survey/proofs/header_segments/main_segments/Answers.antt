@@ -2,7 +2,7 @@ use Rattle.std.proofs.Common.{◌≡◌, ◌+◌, ◌<◌, ◌≤◌, ◌||◌, 
 use Rattle.std.proofs.lemmas.Result.{err_from_is_err_and}
 use Rattle.faults.specs.declared.decode.DecodeError.{DecodeError}
 use Rattle.main_survey.proofs.Runs.{Run, run_turn, run_over, run_sot, run_lost, run_refused}
-use Rattle.main_survey.proofs.segments.main_segments.Goals as goal
+use Rattle.main_survey.proofs.header_segments.main_segments.Goals as goal
 
 pub returns-in_err-found : goal.returns-in_err-found
 returns-in_err-found c =

@@ -1,6 +1,6 @@
 use Rattle.std.proofs.Common.{◌≡◌, ◌-◌, length}
 use Rattle.main_survey.proofs.Runs.{Run}
-use Rattle.main_survey.proofs.segments.main_segments.Given as goal
+use Rattle.main_survey.proofs.header_segments.main_segments.Given as goal
 
 abbrev pub invariant-loop-found : goal.invariant-loop-found
 invariant-loop-found l =
