@@ -1,5 +1,5 @@
 -- The PPT marker segment (T.800 A.7.5).
-use Rattle.std.specs.Prelude.{◌≡◌, ℕ, ◌-◌, List, [], ◌∷◌, length, slice_index}
+use Rattle.std.specs.Prelude.{◌≡◌, ℕ, ◌-◌, List, [], ◌∷◌, slice_index}
 use Rattle.reader.specs.Bytes.{IsPartOf}
 use Rattle.reader.specs.declared.reader.BitReader.{BitReader}
 use Rattle.layouts.specs.Layouts.{Layout, field, fields, behind, one, two, run, any, at_least}
@@ -12,5 +12,4 @@ ppt_layout = behind (fields (field two (at_least 3) ∷ field one any ∷ [])) (
 pub record MadePpt (b : BitReader) (t : PptMarkerData) (vs : List ℕ) : Type 0 where
   pub zppt : t.zppt ≡ slice_index vs 1
   pub place : t.place ≡ slice_index vs 2
-  pub size : length t.«data».now ≡ slice_index vs 0 - 3
   pub bytes : IsPartOf (slice_index vs 0 - 3) b.«data» (slice_index vs 2) t.«data»
