@@ -4,6 +4,8 @@ ghost use Rattle.faults.specs.declared.decode.MarkerError.TheVariants.{ParseFail
 ghost use Rattle.std.specs.Prelude.{◌≡◌};
 
 use crate::segment::{Cause, SegmentFault};
+use std::error::Error;
+use std::fmt;
 
 /// What stopped a call.
 #[derive(Clone, Copy, Debug, PartialEq, Eq)]
@@ -15,7 +17,8 @@ pub enum DecodeError {
     Book(BookError),
 }
 
-/// A marker, or its segment, is not as it must be. `code` is a marker's code byte.
+/// A marker, or its segment, is not as it must be. `code` is a marker's code byte: a number, as `SegmentFault` has it, since a const parameter
+/// takes no enum.
 #[derive(Clone, Copy, Debug, PartialEq, Eq)]
 pub enum MarkerError {
     /// No 0xFF with a code byte behind it.
@@ -113,21 +116,33 @@ impl DecodeError {
             DecodeError::Marker(e) => Some(e.place()),
             DecodeError::Tile(e) => Some(e.place()),
             DecodeError::Validation(e) => e.place(),
-            DecodeError::Decoding(_) => None,
-            DecodeError::Book(_) => None,
+            DecodeError::Decoding(_) | DecodeError::Book(_) => None,
         }
     }
 }
+
+impl fmt::Display for DecodeError {
+    ghost use Rattle.faults.specs.Texts.{fault_text};
+    ghost use Rattle.std.specs.Prelude.{Some};
+
+    ghost output = { λ e. Some (fault_text e) };
+
+    fn fmt<W: fmt::Write>(&self, f: &mut fmt::Formatter<W>) -> fmt::Result {
+        write!(f, "{},{}", self.number(), self.place().unwrap_or(0))
+    }
+}
+
+impl Error for DecodeError {}
 
 impl MarkerError {
     fn place(&self) -> usize
         ensures { result ≡ marker_place self.now }
     {
         match self {
-            MarkerError::Invalid { place } => *place,
-            MarkerError::Unsupported { place } => *place,
-            MarkerError::Expected { place, .. } => *place,
-            MarkerError::Missing { place, .. } => *place,
+            MarkerError::Invalid { place }
+            | MarkerError::Unsupported { place }
+            | MarkerError::Expected { place, .. }
+            | MarkerError::Missing { place, .. } => *place,
             MarkerError::ParseFailure { cause, .. } => cause.place(),
         }
     }
@@ -138,10 +153,10 @@ impl TileError {
         ensures { result ≡ tile_place self.now }
     {
         match self {
-            TileError::Invalid { place } => *place,
-            TileError::InvalidIndex { place } => *place,
-            TileError::InvalidOffsets { place } => *place,
-            TileError::PpmPptConflict { place } => *place,
+            TileError::Invalid { place }
+            | TileError::InvalidIndex { place }
+            | TileError::InvalidOffsets { place }
+            | TileError::PpmPptConflict { place } => *place,
         }
     }
 }
@@ -151,17 +166,17 @@ impl ValidationError {
         ensures { result ≡ validation_place self.now }
     {
         match self {
-            ValidationError::InvalidDimensions { place } => Some(*place),
-            ValidationError::ImageTooLarge { place } => Some(*place),
-            ValidationError::InvalidComponentMetadata { place } => Some(*place),
-            ValidationError::MissingPrecinctExponents { place } => Some(*place),
-            ValidationError::InsufficientExponents { place } => Some(*place),
-            ValidationError::MissingStepSize => None,
-            ValidationError::InvalidExponents => None,
+            ValidationError::InvalidDimensions { place }
+            | ValidationError::ImageTooLarge { place }
+            | ValidationError::InvalidComponentMetadata { place }
+            | ValidationError::MissingPrecinctExponents { place }
+            | ValidationError::InsufficientExponents { place } => Some(*place),
+            ValidationError::MissingStepSize | ValidationError::InvalidExponents => None,
         }
     }
 }
 
+// These are written out, since a derived `From` states no contract.
 impl From<MarkerError> for DecodeError {
     ghost from_gives = { λ e r. r ≡ Marker e };
 

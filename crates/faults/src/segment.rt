@@ -2,6 +2,8 @@ ghost use Rattle.faults.specs.Numbers.{cause_place};
 ghost use Rattle.faults.specs.declared.segment.Cause.TheVariants.{Short};
 ghost use Rattle.std.specs.Prelude.{◌≡◌};
 
+use std::fmt;
+
 /// Bytes are missing: the read that wanted them began at `place`.
 #[derive(Clone, Copy, Debug, PartialEq, Eq)]
 pub struct ReadFault {
@@ -23,6 +25,20 @@ impl Cause {
         match self {
             Cause::Short(e) => e.place,
             Cause::Value(place) => *place,
+        }
+    }
+}
+
+impl fmt::Display for Cause {
+    ghost use Rattle.faults.specs.Texts.{cause_text};
+    ghost use Rattle.std.specs.Prelude.{Some};
+
+    ghost output = { λ e. Some (cause_text e) };
+
+    fn fmt<W: fmt::Write>(&self, f: &mut fmt::Formatter<W>) -> fmt::Result {
+        match self {
+            Cause::Short(e) => write!(f, "short at {}", e.place),
+            Cause::Value(place) => write!(f, "refused at {place}"),
         }
     }
 }

@@ -1,10 +1,10 @@
 -- A marker segment's table of fields, and what reading it comes to.
-use Rattle.std.specs.Prelude.{◌≡◌, ℕ, zero, suc, ◌+◌, Bool, true, cond, List, [], ◌∷◌, ◌++◌, length, Ok, Err, Result, nat_le}
+use Rattle.std.specs.Prelude.{◌≡◌, ℕ, zero, suc, ◌+◌, Bool, true, if◌then◌else◌, List, [], ◌∷◌, ◌++◌, length, Ok, Err, Result, nat_le}
 use Rattle.faults.specs.declared.segment.Cause.{Cause}
 use Rattle.faults.specs.declared.segment.Cause.TheVariants.{Short, Value}
 use Rattle.faults.specs.declared.segment.SegmentFault.{SegmentFault}
 use Rattle.reader.specs.Bytes.{byte_at, word_at, long_at}
-use Rattle.reader.specs.Reads.{bytes_of}
+use Rattle.reader.specs.Reads.{bytes_of, SameData}
 use Rattle.reader.specs.declared.reader.BitReader.{BitReader}
 
 -- how many bytes a field has: a number of one, two or four, or a run of any number of bytes
@@ -58,13 +58,10 @@ pub data Reading : Type 0 where
 abbrev pub reading : List Field → List ℕ → ℕ → List ℕ → Reading
 reading [] d p vs = read vs p
 reading (f ∷ fs) d p vs =
-    cond
-    (nat_le (p + size f.width) (length d))
-    (cond
-    (f.admits vs (value_at f.width d p))
-    (reading fs d (p + size f.width) (vs ++ value_at f.width d p ∷ []))
-    (failed (Value p) (p + size f.width)))
-    (failed (Short (record { place = p })) p)
+    if nat_le (p + size f.width) (length d) then
+    (if f.admits vs (value_at f.width d p) then reading fs d (p + size f.width) (vs ++ value_at f.width d p ∷ [])
+    else failed (Value p) (p + size f.width))
+    else failed (Short (record { place = p })) p
 
 abbrev pub prefixed : List ℕ → Reading → Reading
 prefixed vs (read ws q) = read (vs ++ ws) q
@@ -100,6 +97,10 @@ Answers R is a (Err e) = R ≡ failed e.cause a.place
 -- the meaning of a layout where a reader stands
 abbrev pub here : Layout → BitReader → Reading
 here l b = meaning l (bytes_of b) b.place
+
+-- a reader's call parses a layout: it answers the layout's meaning where it stood, and goes on in the same codestream
+abbrev pub Parses : {V : Type 0} {m : ℕ} → Layout → (V → List ℕ → Type 0) → BitReader → BitReader → Result V (SegmentFault m) → Type 0
+Parses l is b a r = Answers (here l b) is a r × SameData b a
 
 -- a table that is read gives the values at their places, and ends behind them
 abbrev pub ReadsAll : Type 0

@@ -1,4 +1,4 @@
-//! The code bytes of markers (Table A.2).
+//! The code bytes of markers (Table A.2): numbers, since any byte may stand in a codestream, and a const parameter takes no enum.
 
 pub const SOC: u8 = 0x4F;
 

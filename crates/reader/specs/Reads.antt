@@ -21,6 +21,14 @@ abbrev pub Reads : {V : Type 0} → ℕ → (Bor (List ℕ) → ℕ → V → Ty
 Reads w is b a (Ok v) = (b.place + w ≤ length (bytes_of b)) × is b.«data» b.place v × (a.place ≡ b.place + w)
 Reads w is b a (Err e) = (length (bytes_of b) < b.place + w) × (e ≡ record { place = b.place }) × (a.place ≡ b.place)
 
+-- a reader of the same codestream
+abbrev pub SameData : BitReader → BitReader → Type 0
+SameData b a = a.«data» ≡ b.«data»
+
+-- a read of w bytes, after which the reader is still one of the same codestream
+abbrev pub Advances : {V : Type 0} → ℕ → (Bor (List ℕ) → ℕ → V → Type 0) → BitReader → BitReader → Result V ReadFault → Type 0
+Advances w is b a r = Reads w is b a r × SameData b a
+
 -- a read of a marker: its code byte; or refused, and the place stays
 abbrev pub ReadsMarker : BitReader → BitReader → Result ℕ MarkerError → Type 0
 ReadsMarker b a (Ok m) = (marker_at (bytes_of b) b.place ≡ Some m) × (a.place ≡ b.place + 2)

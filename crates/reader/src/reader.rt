@@ -1,25 +1,9 @@
-ghost use Rattle.reader.specs.Bytes.{IsByte, IsLong, IsPartOf, IsWord, long_at, marker_at, word_at};
-ghost use Rattle.reader.specs.Reads.{Peeks, Reads, ReadsMarker, Tails, bytes_of};
+ghost use Rattle.reader.specs.Bytes.{IsArray, IsByte, IsLong, IsPartOf, IsWord, marker_at};
+ghost use Rattle.reader.specs.Reads.{Advances, Peeks, ReadsMarker, SameData, Tails, bytes_of};
 ghost use Rattle.std.specs.Prelude.{◌≡◌, length, nat_le};
 
 use faults::decode::MarkerError;
 use faults::segment::ReadFault;
-
-// The number in two bytes.
-fn word(bytes: &[u8]) -> u16
-    requires { length bytes.now ≡ 2 }
-    ensures { result ≡ word_at bytes.now 0 }
-{
-    u16::from_be_bytes([bytes[0], bytes[1]])
-}
-
-// The number in four bytes.
-fn long(bytes: &[u8]) -> u32
-    requires { length bytes.now ≡ 4 }
-    ensures { result ≡ long_at bytes.now 0 }
-{
-    u32::from_be_bytes([bytes[0], bytes[1], bytes[2], bytes[3]])
-}
 
 /// A place in a codestream, which may lie behind its end.
 #[derive(Clone, Copy)]
@@ -41,8 +25,7 @@ impl<'a> BitReader<'a> {
     pub fn offset(&self) -> usize
         ensures { result ≡ self.now.place }
     {
-        let BitReader { place, .. } = self;
-        *place
+        self.place
     }
 
     /// Whether no byte is left.
@@ -56,6 +39,7 @@ impl<'a> BitReader<'a> {
     pub fn tail(&self) -> Option<&'a [u8]>
         ensures { Tails self.now result }
     {
+        // `get` would not say that the part lies in the codestream's memory.
         if self.place <= self.data.len() {
             Some(&self.data[self.place..])
         } else {
@@ -66,7 +50,7 @@ impl<'a> BitReader<'a> {
     /// Stands at the end.
     pub fn jump_to_end(&mut self)
         ensures at { self.new.place ≡ length (bytes_of self.old) }
-        ensures same { self.new.«data» ≡ self.old.«data» }
+        ensures same { SameData self.old self.new }
     {
         self.place = self.data.len();
     }
@@ -75,19 +59,16 @@ impl<'a> BitReader<'a> {
     pub fn peek_byte(&self) -> Option<u8>
         ensures { Peeks 1 IsByte self.now result }
     {
-        if self.place < self.data.len() {
-            Some(self.data[self.place])
-        } else {
-            None
-        }
+        self.data.get(self.place).copied()
     }
 
     /// The next `len` bytes, without moving.
     pub fn peek_bytes(&self, len: usize) -> Option<&'a [u8]>
         ensures { Peeks len (IsPartOf len) self.now result }
     {
-        if self.place <= self.data.len() && len <= self.data.len() - self.place {
-            Some(&self.data[self.place..self.place + len])
+        let rest = self.tail()?;
+        if len <= rest.len() {
+            Some(&rest[..len])
         } else {
             None
         }
@@ -95,36 +76,37 @@ impl<'a> BitReader<'a> {
 
     /// The next byte.
     pub fn read_byte(&mut self) -> Result<u8, ReadFault>
-        ensures reads { Reads 1 IsByte self.old self.new result }
-        ensures same { self.new.«data» ≡ self.old.«data» }
+        ensures { Advances 1 IsByte self.old self.new result }
     {
-        match self.peek_byte() {
-            Some(b) => {
-                self.place += 1;
-                Ok(b)
-            }
-            None => Err(ReadFault { place: self.place }),
-        }
+        let place = self.place;
+        let byte = self.peek_byte().ok_or(ReadFault { place })?;
+        self.place += 1;
+        Ok(byte)
     }
 
     /// The next `len` bytes, as a part of the codestream.
     pub fn read_bytes(&mut self, len: usize) -> Result<&'a [u8], ReadFault>
-        ensures reads { Reads len (IsPartOf len) self.old self.new result }
-        ensures same { self.new.«data» ≡ self.old.«data» }
+        ensures { Advances len (IsPartOf len) self.old self.new result }
     {
-        match self.peek_bytes(len) {
-            Some(bytes) => {
-                self.place += len;
-                Ok(bytes)
-            }
-            None => Err(ReadFault { place: self.place }),
-        }
+        let place = self.place;
+        let bytes = self.peek_bytes(len).ok_or(ReadFault { place })?;
+        self.place += len;
+        Ok(bytes)
+    }
+
+    // The next N bytes.
+    fn read_array<const N: usize>(&mut self) -> Result<[u8; N], ReadFault>
+        ensures { Advances N (IsArray N) self.old self.new result }
+    {
+        let bytes = self.read_bytes(N)?;
+        let mut array = [0; N];
+        array.copy_from_slice(bytes);
+        Ok(array)
     }
 
     /// Moves behind the next `len` bytes.
     pub fn skip_bytes(&mut self, len: usize) -> Result<(), ReadFault>
-        ensures reads { Reads len (λ _ _ _. Unit {0}) self.old self.new result }
-        ensures same { self.new.«data» ≡ self.old.«data» }
+        ensures { Advances len (λ _ _ _. Unit {0}) self.old self.new result }
     {
         self.read_bytes(len)?;
         Ok(())
@@ -132,47 +114,36 @@ impl<'a> BitReader<'a> {
 
     /// The number in the next two bytes.
     pub fn read_u16(&mut self) -> Result<u16, ReadFault>
-        ensures reads { Reads 2 IsWord self.old self.new result }
-        ensures same { self.new.«data» ≡ self.old.«data» }
+        ensures { Advances 2 IsWord self.old self.new result }
     {
-        let bytes = self.read_bytes(2)?;
-        Ok(word(bytes))
+        Ok(u16::from_be_bytes(self.read_array()?))
     }
 
     /// The number in the next four bytes.
     pub fn read_u32(&mut self) -> Result<u32, ReadFault>
-        ensures reads { Reads 4 IsLong self.old self.new result }
-        ensures same { self.new.«data» ≡ self.old.«data» }
+        ensures { Advances 4 IsLong self.old self.new result }
     {
-        let bytes = self.read_bytes(4)?;
-        Ok(long(bytes))
+        Ok(u32::from_be_bytes(self.read_array()?))
     }
 
     /// The code byte of the marker that stands here, or None.
     pub fn peek_marker(&self) -> Option<u8>
         ensures { result ≡ marker_at (bytes_of self.now) self.now.place }
     {
-        if self.place < self.data.len()
-            && self.data.len() - self.place >= 2
-            && self.data[self.place] == 0xff
-        {
-            Some(self.data[self.place + 1])
-        } else {
-            None
+        match self.tail()? {
+            [0xff, code, ..] => Some(*code),
+            _ => None,
         }
     }
 
     /// The code byte of the marker that stands here, moving behind it.
     pub fn read_marker(&mut self) -> Result<u8, MarkerError>
         ensures reads { ReadsMarker self.old self.new result }
-        ensures same { self.new.«data» ≡ self.old.«data» }
+        ensures same { SameData self.old self.new }
     {
-        match self.peek_marker() {
-            Some(code) => {
-                self.place += 2;
-                Ok(code)
-            }
-            None => Err(MarkerError::Invalid { place: self.place }),
-        }
+        let place = self.place;
+        let code = self.peek_marker().ok_or(MarkerError::Invalid { place })?;
+        self.place += 2;
+        Ok(code)
     }
 }
