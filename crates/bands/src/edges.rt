@@ -8,7 +8,7 @@ ghost use Rattle.bands.specs.SubBands.{bands, band_areas, band_edge_of, has, lev
 ghost use Rattle.bands.specs.Asked.{BandAnswer, Decomposed, ResolutionAnswer, SubBandAnswer};
 
 use crate::decomposition::Decomposition;
-use crate::numbers::{ceil_div_half_step, ceil_div_pow};
+use crate::numbers::ceil_div_pow;
 use crate::resolution::Resolution;
 use crate::sub_band::SubBandType;
 use faults::decode::{BookError, DecodeError};
@@ -30,7 +30,7 @@ impl Decomposition {
         ensures { ResolutionAnswer self.now r result }
     {
         if r > self.levels {
-            return Err(DecodeError::Book(BookError::NoSuchIndex));
+            return Err(BookError::NoSuchIndex.into());
         }
         Ok(Resolution {
             levels: self.levels,
@@ -41,19 +41,22 @@ impl Decomposition {
 
 // An edge of a sub-band of level `n`, with xo_b or yo_b.
 fn band_edge(edge: u32, n: u8, o: u8) -> u32
-    requires { (o < 2) × ((o ≤ n) × (n ≤ 32)) }
+    requires half_steps { o < 2 }
+    requires decomposed { o ≤ n }
+    requires levels { n ≤ 32 }
     ensures { result ≡ band_edge_of n o edge }
 {
     if o == 0 {
         return ceil_div_pow(edge, n);
     }
-    ceil_div_half_step(edge, n)
+    ceil_div_pow(edge.saturating_sub(1 << (n - 1)), n)
 }
 
 impl Resolution {
-    // The edges of this resolution of a component tile.
-    fn edges(&self, tile: IntRect) -> IntRect
-        ensures { region result ≡ resolution self.now.levels self.now.r (region tile) }
+    /// This resolution of a component tile (B-14). The sub-bands of all resolutions up to this one have its area together.
+    pub fn rect(&self, tile: IntRect) -> IntRect
+        ensures edges { region result ≡ resolution self.now.levels self.now.r (region tile) }
+        ensures areas_add_up { total (band_areas self.now.levels (region tile)) (range_with_len 0 (self.now.r + 1)) ≡ area (region result) }
     {
         let k = self.levels - self.r;
         IntRect::from_ltrb(
@@ -62,14 +65,6 @@ impl Resolution {
             ceil_div_pow(tile.x1, k),
             ceil_div_pow(tile.y1, k),
         )
-    }
-
-    /// This resolution of a component tile (B-14). The sub-bands of all resolutions up to this one have its area together.
-    pub fn rect(&self, tile: IntRect) -> IntRect
-        ensures edges { region result ≡ resolution self.now.levels self.now.r (region tile) }
-        ensures areas_add_up { total (band_areas self.now.levels (region tile)) (range_with_len 0 (self.now.r + 1)) ≡ area (region result) }
-    {
-        self.edges(tile)
     }
 
     /// n_b, the decomposition level of this resolution's sub-bands (B.5).
@@ -98,7 +93,7 @@ impl Resolution {
             (false, 0) => Ok(SubBandType::HighLow),
             (false, 1) => Ok(SubBandType::LowHigh),
             (false, 2) => Ok(SubBandType::HighHigh),
-            _ => Err(DecodeError::Book(BookError::NoSuchIndex)),
+            _ => Err(BookError::NoSuchIndex.into()),
         }
     }
 
@@ -108,9 +103,7 @@ impl Resolution {
     {
         match band {
             SubBandType::LowLow => self.r == 0,
-            SubBandType::HighLow => self.r > 0,
-            SubBandType::LowHigh => self.r > 0,
-            SubBandType::HighHigh => self.r > 0,
+            SubBandType::HighLow | SubBandType::LowHigh | SubBandType::HighHigh => self.r > 0,
         }
     }
 
@@ -119,7 +112,7 @@ impl Resolution {
         ensures { SubBandAnswer self.now (region tile) band result }
     {
         if !self.has(band) {
-            return Err(DecodeError::Book(BookError::NoSuchIndex));
+            return Err(BookError::NoSuchIndex.into());
         }
         let n = self.decomposition_level();
         Ok(IntRect::from_ltrb(

@@ -12,7 +12,7 @@ pub enum SubBandType {
 }
 
 impl SubBandType {
-    /// xo_b: 1 where the sub-band has the high frequencies across (Table B.1).
+    /// xo_b: 1 where the sub-band has the high frequencies across (Table B.1). A number, since B-15 multiplies by it.
     pub fn xo(&self) -> u8
         ensures { result ≡ xo self.now }
     {
@@ -24,7 +24,7 @@ impl SubBandType {
         }
     }
 
-    /// yo_b: 1 where the sub-band has the high frequencies down (Table B.1).
+    /// yo_b: 1 where the sub-band has the high frequencies down (Table B.1). A number, likewise.
     pub fn yo(&self) -> u8
         ensures { result ≡ yo self.now }
     {

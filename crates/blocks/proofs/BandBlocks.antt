@@ -5,7 +5,7 @@ use Rattle.std.specs.List.{range_with_len}
 use Rattle.std.proofs.lemmas.Bool.{and_cases, cases_lt, cond-true, eqb-false, lt-ltb, ltb-false, or_parts}
 use Rattle.rect.specs.Numbers.{ceil}
 use Rattle.rect.specs.Rects.{region}
-use Rattle.rect.specs.Spans.{Span, Rect, rect, meet, meets, shrunk}
+use Rattle.rect.specs.Spans.{Span, rect, meet, meets, shrunk}
 use Rattle.rect.specs.Sums.{total}
 use Rattle.rect.proofs.Ceil.{le_ceil}
 use Rattle.rect.proofs.Weights.{Adds, Mono, cut_total, partition, total_each, total_product, weigh, weight, weight_empty}
@@ -220,7 +220,3 @@ cut_up xcb ycb x y b t ok hb =
           (λ q. blocks_proper (2 ^ block_exponent_of xcb x) (2 ^ block_exponent_of ycb y) (meets (region q.rect) (sub_band x y b))) (precincts x y);
       few = omega (arith, p.areas, few_each (precinct_blocks xcb ycb x y b) (few_precinct xcb ycb x y b) (precincts x y));
     }
-
--- what a precinct and a sub-band share, by other names for both
-pub shared_by : (p q : PrecinctData) (s t r : Rect) → r ≡ meets (region p.rect) s → p ≡ q → s ≡ t → r ≡ meets (region q.rect) t
-shared_by p q s t r e f g = e ∙ ap₂ (λ (d : PrecinctData) (v : Rect). meets (region d.rect) v) f g

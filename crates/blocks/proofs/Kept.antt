@@ -1,18 +1,19 @@
 -- What a test of columns and rows keeps of a list row by row.
-use Rattle.std.proofs.Common.{◌≡◌, ℕ, zero, suc, ◌+◌, ◌-◌, ◌<◌, ◌≤◌, max, Bool, true, false, cond, ◌⊎◌, List, [], ◌∷◌, ◌++◌, map, filter, sym, refl, ap, ◌∙◌, ap₂, inl, inr, arith}
+use Rattle.std.proofs.Common.{◌≡◌, ℕ, zero, suc, ◌+◌, ◌-◌, ◌<◌, ◌≤◌, max, Bool, true, false, cond, ◌&&◌, ◌⊎◌, List, [], ◌∷◌, ◌++◌, map, filter, get_or, sym, refl, ap, ◌∙◌, ap₂, inl, inr, arith}
 use Rattle.std.specs.Prelude.{All}
 use Rattle.std.specs.List.{range_with_len}
 use Rattle.std.proofs.lemmas.List.FromFn.{fill_by_all, get_or-range_with_len, length-range_with_len}
 use Rattle.std.proofs.lemmas.List.Elements.{filter-append}
-use Rattle.std.proofs.lemmas.List.Elements.{All-append, All-cons, All-nil}
+use Rattle.std.proofs.lemmas.List.Elements.{All-append, All-map, All-nil}
 use Rattle.std.proofs.lemmas.Bool.{cases_lt, cond-false, cond-true}
 use Rattle.rect.specs.Sums.{each, product}
+use Rattle.rect.proofs.Places.{map_map}
 
-neither : (b : Bool) → cond {A = Bool} b false false ≡ false
+neither : (b : Bool) → (b && false) ≡ false
 neither true = refl
 neither false = refl
 
-kept_row : {A C : Type 0} (p : C → Bool) (f : A → C) (q : A → Bool) (t : Bool) → ((a : A) → p (f a) ≡ cond (q a) t false) → (l : List A)
+kept_row : {A C : Type 0} (p : C → Bool) (f : A → C) (q : A → Bool) (t : Bool) → ((a : A) → p (f a) ≡ (q a && t)) → (l : List A)
     → filter p (map f l) ≡ cond t (map f (filter q l)) []
 kept_row p f q true e [] = refl
 kept_row p f q false e [] = refl
@@ -21,15 +22,15 @@ kept_row {A} {C} p f q true e (a ∷ l) = go (q a) refl (kept_row p f q true e l
     go : (b : Bool) → q a ≡ b → filter p (map f l) ≡ map f (filter q l)
         → cond (p (f a)) (f a ∷ filter p (map f l)) (filter p (map f l)) ≡ map f (cond b (a ∷ filter q l) (filter q l))
     go true w rest =
-        cond-true (p (f a)) (f a ∷ filter p (map f l)) (filter p (map f l)) (e a ∙ ap (λ (b : Bool). cond b true false) w)
+        cond-true (p (f a)) (f a ∷ filter p (map f l)) (filter p (map f l)) (e a ∙ ap (λ (b : Bool). b && true) w)
         ∙ ap (λ (r : List C). f a ∷ r) rest
     go false w rest =
-        cond-false (p (f a)) (f a ∷ filter p (map f l)) (filter p (map f l)) (e a ∙ ap (λ (b : Bool). cond b true false) w) ∙ rest
+        cond-false (p (f a)) (f a ∷ filter p (map f l)) (filter p (map f l)) (e a ∙ ap (λ (b : Bool). b && true) w) ∙ rest
 kept_row p f q false e (a ∷ l) =
     cond-false (p (f a)) (f a ∷ filter p (map f l)) (filter p (map f l)) (e a ∙ neither (q a)) ∙ kept_row p f q false e l
 
 pub kept_product : {A B C : Type 0} (p : C → Bool) (f : A → B → C) (q : A → Bool) (s : B → Bool)
-    → ((a : A) (b : B) → p (f a b) ≡ cond (q a) (s b) false) → (l : List A) (m : List B)
+    → ((a : A) (b : B) → p (f a b) ≡ (q a && s b)) → (l : List A) (m : List B)
     → filter p (product f l m) ≡ product f (filter q l) (filter s m)
 kept_product p f q s e l [] = refl
 kept_product {A} {B} {C} p f q s e l (b ∷ m) =
@@ -65,10 +66,6 @@ kept_from q k n lo hi a (suc m) e = go (cases_lt a k) (kept_from q k n lo hi (a 
 counting_shift : (a n : ℕ) → range_with_len a n ≡ map (λ i. a + i) (range_with_len 0 n)
 counting_shift a n = fill_by_all (λ i. a + i) (range_with_len a n) n 0 (length-range_with_len a n) (λ k h. get_or-range_with_len a n k 0 h)
 
-map_map : {A B C : Type 0} (g : B → C) (f : A → B) (l : List A) → map g (map f l) ≡ map (λ a. g (f a)) l
-map_map g f [] = refl
-map_map g f (a ∷ l) = ap (λ r. g (f a) ∷ r) (map_map g f l)
-
 product_map : {A B C : Type 0} (f : B → C → A) (g : ℕ → B) (h : ℕ → C) (l m : List ℕ) → product f (map g l) (map h m) ≡ product (λ i j. f (g i) (h j)) l m
 product_map f g h l [] = refl
 product_map f g h l (b ∷ m) = ap₂ ◌++◌ (map_map (λ a. f a (h b)) g l) (product_map f g h l m)
@@ -79,8 +76,7 @@ shifted f a n b m =
 
 -- what holds of every item
 all_row : {A B : Type 0} (P : B → Type 0) (f : A → B) → ((a : A) → P (f a)) → (l : List A) → All P (map f l)
-all_row P f h [] = All-nil P
-all_row P f h (a ∷ l) = All-cons P (f a) (map f l) (h a) (all_row P f h l)
+all_row P f h l = All-map P f l (λ k d _. h (get_or l k d))
 
 pub all_product : {A B C : Type 0} (P : C → Type 0) (f : A → B → C) → ((a : A) (b : B) → P (f a b)) → (l : List A) (m : List B) → All P (product f l m)
 all_product P f h l [] = All-nil P

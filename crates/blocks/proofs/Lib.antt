@@ -2,5 +2,4 @@ pub mod Kept
 pub mod BlockLaws
 pub mod BandBlocks
 pub mod Cover
-pub mod Worked
 pub mod Numbered

@@ -1,5 +1,5 @@
 -- The code-blocks of a precinct as the calls hand them out.
-use Rattle.std.proofs.Common.{◌≡◌, ℕ, ◌*◌, ◌^◌, ◌<◌, ◌≤◌, map, length, sym, ap, ◌∙◌, subst, ap₂, arith, pow_pos}
+use Rattle.std.proofs.Common.{◌≡◌, ℕ, ◌*◌, ◌^◌, ◌<◌, ◌≤◌, map, length, sym, ◌∙◌, subst, arith, pow_pos}
 use Rattle.std.specs.List.{range_with_len}
 use Rattle.std.proofs.lemmas.List.FromFn.{fill_by_all}
 use Rattle.rect.specs.declared.IntRect.{IntRect}
@@ -7,7 +7,7 @@ use Rattle.rect.specs.Rects.{nowhere, region}
 use Rattle.rect.specs.Spans.{Rect, area}
 use Rattle.rect.specs.Sums.{Partition}
 use Rattle.blocks.specs.declared.cells.CodeBlocks.{CodeBlocks}
-use Rattle.blocks.specs.CodeBlocks.{blocks, Proper}
+use Rattle.blocks.specs.CodeBlocks.{Proper}
 use Rattle.blocks.specs.Asked.{block_of, blocks_of, columns, rows, BlockIs}
 use Rattle.blocks.proofs.BlockLaws.{blocks_partition, few_blocks, listed, number, proper_at}
 
@@ -18,10 +18,6 @@ pub all_of : (b : CodeBlocks) (n : ℕ) → n ≡ columns b * rows b → blocks_
 all_of b n e =
     fill_by_all (block_of b) (blocks_of b) n nowhere (number_of b ∙ sym e)
     (λ k h. sym (listed (2 ^ b.xcb) (2 ^ b.ycb) (pow_pos b.xcb) (pow_pos b.ycb) (region b.rect) k (omega arith)))
-
--- the same list by other names for its sizes and its rectangle
-pub same_blocks : (v w g h : ℕ) (r s : Rect) → v ≡ w → g ≡ h → r ≡ s → blocks (2 ^ v) (2 ^ g) r ≡ blocks (2 ^ w) (2 ^ h) s
-same_blocks v w g h r s d e f = ap₂ (λ a b. blocks (2 ^ a) (2 ^ b) r) d e ∙ ap (blocks (2 ^ w) (2 ^ h)) f
 
 pub partition_of : (b : CodeBlocks) → Partition (region b.rect) (blocks_of b)
 partition_of b = blocks_partition (2 ^ b.xcb) (2 ^ b.ycb) (pow_pos b.xcb) (pow_pos b.ycb) (region b.rect)

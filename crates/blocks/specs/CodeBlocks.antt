@@ -1,5 +1,5 @@
 -- Code-blocks (T.800 B.7).
-use Rattle.std.specs.Prelude.{ℕ, ◌+◌, ◌-◌, ◌*◌, ◌/◌, ◌%◌, ◌<◌, ◌≤◌, min, cond, List, filter, nat_lt}
+use Rattle.std.specs.Prelude.{ℕ, ◌+◌, ◌-◌, ◌*◌, ◌/◌, ◌%◌, ◌<◌, ◌≤◌, min, List, filter, nat_lt, if◌then◌else◌}
 use Rattle.std.specs.List.{range_with_len}
 use Rattle.rect.specs.Numbers.{ceil}
 use Rattle.rect.specs.Spans.{Span, Rect, rect, cell, filled, meet, meets}
@@ -18,7 +18,7 @@ blocks w h r =
 
 -- the same in closed form: how many in one direction, and number i of them
 abbrev pub block_count_of : ℕ → Span → ℕ
-block_count_of w s = cond (nat_lt s.from s.to) (ceil s.to w - s.from / w) 0
+block_count_of w s = if nat_lt s.from s.to then ceil s.to w - s.from / w else 0
 
 abbrev pub block_span : ℕ → Span → ℕ → Span
 block_span w s i = meet (cell 0 w (s.from / w + i)) s

@@ -6,17 +6,11 @@ ghost use Rattle.blocks.specs.Components.{BlocksCover};
 use geometry::grid::TileGrid;
 use geometry::sampling::Sampling;
 
-fn samples_in(tiles: &TileGrid, sampling: Sampling) -> u64
-    ensures { result ≡ samples tiles.now sampling }
-{
-    tiles.component_area(sampling).area()
-}
-
 /// The number of a component's samples in the image area: the area of its code-blocks in all tiles, resolutions, precincts and sub-bands,
 /// whatever coding parameters each tile has, where no precincts are refused.
 pub fn component_samples(tiles: &TileGrid, sampling: Sampling) -> u64
     ensures number { result ≡ samples tiles.now sampling }
     ensures blocks_cover { BlocksCover tiles.now sampling result }
 {
-    samples_in(tiles, sampling)
+    tiles.component_area(sampling).area()
 }

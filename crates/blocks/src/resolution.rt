@@ -8,7 +8,6 @@ ghost use Rattle.blocks.specs.Asked.{BlocksAnswer, CutWhereAccepted, SubBandIs};
 
 use crate::cells::CodeBlocks;
 use crate::grid::BlockGrid;
-use crate::numbers::two_to;
 use bands::sub_band::SubBandType;
 use faults::decode::DecodeError;
 use precincts::axis::PrecinctAxis;
@@ -25,6 +24,7 @@ fn block_exponent(cb: u8, a: PrecinctAxis) -> u8
     cb.min(a.exponent.saturating_sub(1))
 }
 
+// Not `intersect`, which answers zeros where the two do not touch.
 fn cut(a: IntRect, b: IntRect) -> IntRect
     ensures { region result ≡ meets (region a) (region b) }
 {
@@ -41,23 +41,14 @@ impl BlockGrid {
     pub fn code_block_width(&self) -> u32
         ensures { result ≡ 2 ^ block_exponent_of self.now.xcb (across self.now.precincts) }
     {
-        two_to(block_exponent(self.xcb, self.precincts.x))
+        1 << block_exponent(self.xcb, self.precincts.x)
     }
 
     /// A code-block's height (B-18).
     pub fn code_block_height(&self) -> u32
         ensures { result ≡ 2 ^ block_exponent_of self.now.ycb (down self.now.precincts) }
     {
-        two_to(block_exponent(self.ycb, self.precincts.y))
-    }
-
-    fn band_edges(&self, band: SubBandType) -> Result<IntRect, DecodeError>
-        ensures { SubBandIs (across self.now.precincts) (down self.now.precincts) band result }
-    {
-        self.precincts
-            .x
-            .resolution
-            .sub_band_rect(self.precincts.component_tile(), band)
+        1 << block_exponent(self.ycb, self.precincts.y)
     }
 
     /// A sub-band of the resolution (B-15). The code-blocks of all precincts cut it up, where the precincts are not refused.
@@ -65,14 +56,17 @@ impl BlockGrid {
         ensures answers { SubBandIs (across self.now.precincts) (down self.now.precincts) band result }
         ensures cut_up { CutWhereAccepted self.now band }
     {
-        self.band_edges(band)
+        self.precincts
+            .x
+            .resolution
+            .sub_band_rect(self.precincts.component_tile(), band)
     }
 
     /// The code-blocks of a sub-band in precinct `k`. The code-blocks of all precincts cut the sub-band up.
     pub fn code_blocks(&self, band: SubBandType, k: u64) -> Result<CodeBlocks, DecodeError>
         ensures { BlocksAnswer self.now band k result }
     {
-        let whole = self.band_edges(band)?;
+        let whole = self.sub_band_rect(band)?;
         let precinct = self.precincts.precinct(k)?;
         Ok(CodeBlocks {
             rect: cut(precinct.rect, whole),

@@ -1,2 +1,1 @@
 pub mod TileLaws
-pub mod Worked

@@ -4,14 +4,14 @@ ghost use Rattle.geometry.specs.TileGrid.{tile_count, tile_span};
 ghost use Rattle.geometry.specs.Tiles.{axis};
 
 use crate::axis::TileAxis;
-use crate::numbers::ceil_div;
 
 impl TileAxis {
     /// numXtiles or numYtiles (B-5).
+    #[tactic(auto, using(rect::proofs::Ceil::ceil_code))]
     pub fn num_tiles(&self) -> u32
         ensures { result ≡ tile_count (axis self.now) }
     {
-        ceil_div(self.size - self.origin, self.side)
+        (self.size - self.origin).div_ceil(self.side)
     }
 
     /// Where column or row `p` begins (B-7, B-8).
@@ -23,7 +23,7 @@ impl TileAxis {
         start.max(u64::from(self.offset)) as u32
     }
 
-    /// Where column or row `p` ends (B-9, B-10).
+    /// Where column or row `p` ends (B-9, B-10): the smaller of two numbers, where `tile_start` is the larger.
     pub(crate) fn tile_end(&self, p: u32) -> u32
         ensures { result ≡ (tile_span (axis self.now) p).to }
     {

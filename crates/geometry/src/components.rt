@@ -7,20 +7,20 @@ ghost use Rattle.geometry.specs.Components.{component_tiles_of, sampled, samples
 ghost use Rattle.geometry.specs.Tiles.{image_of};
 
 use crate::grid::TileGrid;
-use crate::numbers::ceil_div;
 use crate::sampling::Sampling;
 use rect::IntRect;
 
 impl Sampling {
     /// The samples in a rectangle of the reference grid (B-12).
+    #[tactic(auto, using(rect::proofs::Ceil::ceil_code))]
     pub fn samples_in(&self, whole: IntRect) -> IntRect
         ensures { region result ≡ sampled self.now (region whole) }
     {
         IntRect::from_ltrb(
-            ceil_div(whole.x0, u32::from(self.x)),
-            ceil_div(whole.y0, u32::from(self.y)),
-            ceil_div(whole.x1, u32::from(self.x)),
-            ceil_div(whole.y1, u32::from(self.y)),
+            whole.x0.div_ceil(u32::from(self.x)),
+            whole.y0.div_ceil(u32::from(self.y)),
+            whole.x1.div_ceil(u32::from(self.x)),
+            whole.y1.div_ceil(u32::from(self.y)),
         )
     }
 }
@@ -34,13 +34,6 @@ impl TileGrid {
         Some(sampling.samples_in(tile))
     }
 
-    // The edges of the image area, divided.
-    fn component_image(&self, sampling: Sampling) -> IntRect
-        ensures { region result ≡ sampled sampling (image_of self.now) }
-    {
-        sampling.samples_in(self.image())
-    }
-
     /// The component's samples in the image area. Its tiles cut them up: every sample lies in exactly one of them.
     pub fn component_area(&self, sampling: Sampling) -> IntRect
         ensures edges { region result ≡ sampled sampling (image_of self.now) }
@@ -49,6 +42,6 @@ impl TileGrid {
         ensures areas_add_up { total area (component_tiles_of self.now sampling) ≡ samples self.now sampling }
         ensures exactly_one { ExactlyOne (region result) (component_tiles_of self.now sampling) }
     {
-        self.component_image(sampling)
+        sampling.samples_in(self.image_area())
     }
 }

@@ -1,22 +1,21 @@
 //! The tiles of a grid.
-ghost use Rattle.std.specs.Prelude.{◌≡◌, ◌*◌, ◌/◌, ◌%◌, ◌<◌, length};
+ghost use Rattle.std.specs.Prelude.{◌≡◌, ◌*◌, ◌/◌, ◌%◌, length};
 ghost use Rattle.rect.specs.Rects.{region};
 ghost use Rattle.rect.specs.Spans.{area};
 ghost use Rattle.rect.specs.Sums.{total, ExactlyOne};
-ghost use Rattle.geometry.specs.Tiles.{columns, image_of, rows, grid_tiles, Joined, TileAnswer, TileIs};
+ghost use Rattle.geometry.specs.Tiles.{columns, image_of, rows, grid_tiles, Joined, TileAnswer};
 
 use crate::axis::TileAxis;
 use crate::grid::TileGrid;
 use rect::IntRect;
+use rect::cell::Cell;
 
 impl TileGrid {
     /// The grid of two directions, if there are fewer than 2^32 tiles.
     pub fn new(x: TileAxis, y: TileAxis) -> Option<TileGrid>
         ensures { Joined x y result }
     {
-        if u64::from(x.num_tiles()) * u64::from(y.num_tiles()) > 0xFFFF_FFFF {
-            return None;
-        }
+        x.num_tiles().checked_mul(y.num_tiles())?;
         Some(TileGrid { x, y })
     }
 
@@ -55,45 +54,30 @@ impl TileGrid {
         idx / self.num_x_tiles()
     }
 
-    // Tile `idx`, which is one of the grid's.
-    fn tile_by_number(&self, idx: u32) -> IntRect
-        requires { idx < columns self.now * rows self.now }
-        ensures { TileIs self.now idx result }
+    /// Tile `idx`, if there is one (B-7 to B-10).
+    #[tactic(auto, using(crate::proofs::TileLaws::tiles_number))]
+    pub fn tile(&self, idx: u32) -> Option<IntRect>
+        ensures { TileAnswer self.now idx result }
     {
-        let p = self.tile_x_coord(idx);
-        let q = self.tile_y_coord(idx);
-        IntRect::from_ltrb(
+        let cell = Cell::new(self.num_x_tiles(), self.num_y_tiles(), u64::from(idx))?;
+        let p = cell.column();
+        let q = cell.row();
+        Some(IntRect::from_ltrb(
             self.x.tile_start(p),
             self.y.tile_start(q),
             self.x.tile_end(p),
             self.y.tile_end(q),
-        )
-    }
-
-    /// Tile `idx`, if there is one (B-7 to B-10).
-    pub fn tile(&self, idx: u32) -> Option<IntRect>
-        ensures { TileAnswer self.now idx result }
-    {
-        if idx >= self.num_tiles() {
-            return None;
-        }
-        Some(self.tile_by_number(idx))
-    }
-
-    // The edges of the image area.
-    pub(crate) fn image(&self) -> IntRect
-        ensures { region result ≡ image_of self.now }
-    {
-        IntRect::from_ltrb(self.x.offset, self.y.offset, self.x.size, self.y.size)
+        ))
     }
 
     /// The image area. The tiles cut it up: every point of it lies in exactly one tile.
+    #[tactic(auto, using(crate::proofs::TileLaws::tiles_number))]
     pub fn image_area(&self) -> IntRect
         ensures edges { region result ≡ image_of self.now }
         ensures number { length (grid_tiles self.now) ≡ columns self.now * rows self.now }
         ensures areas_add_up { total area (grid_tiles self.now) ≡ area (region result) }
         ensures exactly_one { ExactlyOne (region result) (grid_tiles self.now) }
     {
-        self.image()
+        IntRect::from_ltrb(self.x.offset, self.y.offset, self.x.size, self.y.size)
     }
 }

@@ -11,202 +11,92 @@ use precincts::grid::PrecinctGrid;
 use rect::IntRect;
 use std::io;
 
-/// A tile's edges x0, y0, x1, y1 on the reference grid; XRsiz and YRsiz; N_L and r; PPx and PPy; xcb and ycb.
+/// A tile's edges on the reference grid; XRsiz and YRsiz; N_L and r; PPx and PPy; xcb and ycb.
+#[derive(Clone, Copy)]
 struct Case {
-    tile: [u32; 4],
-    steps: [u8; 2],
+    tile: IntRect,
+    xrsiz: u8,
+    yrsiz: u8,
     levels: u8,
     r: u8,
-    exponents: [u8; 2],
-    blocks: [u8; 2],
+    ppx: u8,
+    ppy: u8,
+    xcb: u8,
+    ycb: u8,
 }
 
-const CASES: [Case; 23] = [
+// One row of the table below.
+fn row(
+    (x0, y0, x1, y1): (u32, u32, u32, u32),
+    (xrsiz, yrsiz): (u8, u8),
+    (levels, r): (u8, u8),
+    (ppx, ppy): (u8, u8),
+    (xcb, ycb): (u8, u8),
+) -> Case {
     Case {
-        tile: [3, 2, 9, 7],
-        steps: [1, 1],
-        levels: 1,
-        r: 1,
-        exponents: [3, 3],
-        blocks: [2, 2],
-    },
-    Case {
-        tile: [9, 2, 17, 7],
-        steps: [1, 1],
-        levels: 2,
-        r: 0,
-        exponents: [15, 15],
-        blocks: [2, 2],
-    },
-    Case {
-        tile: [9, 2, 17, 7],
-        steps: [1, 1],
-        levels: 2,
-        r: 1,
-        exponents: [15, 15],
-        blocks: [2, 2],
-    },
-    Case {
-        tile: [5, 0, 6, 9],
-        steps: [1, 1],
-        levels: 2,
-        r: 1,
-        exponents: [0, 0],
-        blocks: [2, 2],
-    },
-    Case {
-        tile: [3, 2, 9, 7],
-        steps: [1, 1],
-        levels: 1,
-        r: 1,
-        exponents: [0, 3],
-        blocks: [2, 2],
-    },
-    Case {
-        tile: [3, 2, 9, 7],
-        steps: [1, 1],
-        levels: 1,
-        r: 0,
-        exponents: [0, 0],
-        blocks: [2, 2],
-    },
-    Case {
-        tile: [0, 0, 4294967295, 5],
-        steps: [1, 1],
-        levels: 16,
-        r: 0,
-        exponents: [15, 15],
-        blocks: [10, 2],
-    },
-    Case {
-        tile: [0, 0, 4294967295, 5],
-        steps: [1, 1],
-        levels: 17,
-        r: 0,
-        exponents: [15, 0],
-        blocks: [10, 2],
-    },
-    Case {
-        tile: [0, 0, 4294967295, 5],
-        steps: [2, 1],
-        levels: 16,
-        r: 0,
-        exponents: [15, 15],
-        blocks: [10, 2],
-    },
-    Case {
-        tile: [4294967290, 4294967280, 4294967295, 4294967295],
-        steps: [1, 1],
-        levels: 32,
-        r: 32,
-        exponents: [15, 15],
-        blocks: [6, 6],
-    },
-    Case {
-        tile: [0, 0, 4294967295, 4294967295],
-        steps: [1, 1],
-        levels: 32,
-        r: 0,
-        exponents: [0, 0],
-        blocks: [6, 6],
-    },
-    Case {
-        tile: [1, 1, 4294967295, 4294967295],
-        steps: [1, 1],
-        levels: 32,
-        r: 0,
-        exponents: [15, 15],
-        blocks: [6, 6],
-    },
-    Case {
-        tile: [4294967290, 0, 4294967295, 5],
-        steps: [1, 1],
-        levels: 0,
-        r: 0,
-        exponents: [15, 15],
-        blocks: [6, 6],
-    },
-    Case {
-        tile: [1000, 7, 100000, 3000],
-        steps: [255, 254],
-        levels: 3,
-        r: 2,
-        exponents: [4, 5],
-        blocks: [3, 2],
-    },
-    Case {
-        tile: [3, 2, 9, 7],
-        steps: [1, 1],
-        levels: 1,
-        r: 2,
-        exponents: [3, 3],
-        blocks: [2, 2],
-    },
-    Case {
-        tile: [3, 2, 9, 7],
-        steps: [1, 1],
-        levels: 33,
-        r: 2,
-        exponents: [3, 3],
-        blocks: [2, 2],
-    },
-    Case {
-        tile: [13, 2, 60, 40],
-        steps: [1, 1],
-        levels: 2,
-        r: 0,
-        exponents: [2, 2],
-        blocks: [2, 3],
-    },
-    Case {
-        tile: [43, 5, 200, 90],
-        steps: [3, 1],
-        levels: 1,
-        r: 0,
-        exponents: [3, 2],
-        blocks: [2, 2],
-    },
-    Case {
-        tile: [4294900000, 10, 4294930000, 12],
-        steps: [1, 1],
-        levels: 0,
-        r: 0,
-        exponents: [15, 15],
-        blocks: [10, 2],
-    },
-    Case {
-        tile: [0, 0, 70000, 3],
-        steps: [1, 1],
-        levels: 0,
-        r: 0,
-        exponents: [0, 1],
-        blocks: [4, 4],
-    },
-    Case {
-        tile: [3, 2, 9, 7],
-        steps: [0, 1],
-        levels: 1,
-        r: 1,
-        exponents: [3, 3],
-        blocks: [2, 2],
-    },
-    Case {
-        tile: [3, 2, 9, 7],
-        steps: [1, 1],
-        levels: 1,
-        r: 1,
-        exponents: [3, 16],
-        blocks: [2, 2],
-    },
-    Case {
-        tile: [9, 2, 3, 7],
-        steps: [1, 1],
-        levels: 1,
-        r: 1,
-        exponents: [3, 3],
-        blocks: [2, 2],
-    },
-];
+        tile: IntRect { x0, y0, x1, y1 },
+        xrsiz,
+        yrsiz,
+        levels,
+        r,
+        ppx,
+        ppy,
+        xcb,
+        ycb,
+    }
+}
+
+fn cases() -> [Case; 23] {
+    [
+        row((3, 2, 9, 7), (1, 1), (1, 1), (3, 3), (2, 2)),
+        row((9, 2, 17, 7), (1, 1), (2, 0), (15, 15), (2, 2)),
+        row((9, 2, 17, 7), (1, 1), (2, 1), (15, 15), (2, 2)),
+        row((5, 0, 6, 9), (1, 1), (2, 1), (0, 0), (2, 2)),
+        row((3, 2, 9, 7), (1, 1), (1, 1), (0, 3), (2, 2)),
+        row((3, 2, 9, 7), (1, 1), (1, 0), (0, 0), (2, 2)),
+        row((0, 0, u32::MAX, 5), (1, 1), (16, 0), (15, 15), (10, 2)),
+        row((0, 0, u32::MAX, 5), (1, 1), (17, 0), (15, 0), (10, 2)),
+        row((0, 0, u32::MAX, 5), (2, 1), (16, 0), (15, 15), (10, 2)),
+        row(
+            (4294967290, 4294967280, u32::MAX, u32::MAX),
+            (1, 1),
+            (32, 32),
+            (15, 15),
+            (6, 6),
+        ),
+        row((0, 0, u32::MAX, u32::MAX), (1, 1), (32, 0), (0, 0), (6, 6)),
+        row(
+            (1, 1, u32::MAX, u32::MAX),
+            (1, 1),
+            (32, 0),
+            (15, 15),
+            (6, 6),
+        ),
+        row(
+            (4294967290, 0, u32::MAX, 5),
+            (1, 1),
+            (0, 0),
+            (15, 15),
+            (6, 6),
+        ),
+        row((1000, 7, 100000, 3000), (255, 254), (3, 2), (4, 5), (3, 2)),
+        row((3, 2, 9, 7), (1, 1), (1, 2), (3, 3), (2, 2)),
+        row((3, 2, 9, 7), (1, 1), (33, 2), (3, 3), (2, 2)),
+        row((13, 2, 60, 40), (1, 1), (2, 0), (2, 2), (2, 3)),
+        row((43, 5, 200, 90), (3, 1), (1, 0), (3, 2), (2, 2)),
+        row(
+            (4294900000, 10, 4294930000, 12),
+            (1, 1),
+            (0, 0),
+            (15, 15),
+            (10, 2),
+        ),
+        row((0, 0, 70000, 3), (1, 1), (0, 0), (0, 1), (4, 4)),
+        row((3, 2, 9, 7), (0, 1), (1, 1), (3, 3), (2, 2)),
+        row((3, 2, 9, 7), (1, 1), (1, 1), (3, 16), (2, 2)),
+        row((9, 2, 3, 7), (1, 1), (1, 1), (3, 3), (2, 2)),
+    ]
+}
 
 const BANDS: [SubBandType; 4] = [
     SubBandType::LowLow,
@@ -216,14 +106,7 @@ const BANDS: [SubBandType; 4] = [
 ];
 
 fn show_rect(rt: &HostRuntime, label: &str, r: IntRect) -> io::Result<()> {
-    println!(rt;
-        "{label} {},{},{},{} area {}",
-        r.x0,
-        r.y0,
-        r.x1,
-        r.y1,
-        r.area()
-    )
+    println!(rt; "{label} {r} area {}", r.area())
 }
 
 fn show_fault(rt: &HostRuntime, label: &str, fault: &DecodeError) -> io::Result<()> {
@@ -305,12 +188,9 @@ fn show_grid(rt: &HostRuntime, grid: &BlockGrid) -> io::Result<()> {
 }
 
 fn show_resolution(rt: &HostRuntime, case: &Case, resolution: Resolution) -> io::Result<()> {
-    let [x0, y0, x1, y1] = case.tile;
-    let [xrsiz, yrsiz] = case.steps;
-    let [ppx, ppy] = case.exponents;
-    let [xcb, ycb] = case.blocks;
-    let tile = IntRect::from_ltrb(x0, y0, x1, y1);
-    let Some(precincts) = PrecinctGrid::new(tile, xrsiz, yrsiz, resolution, ppx, ppy) else {
+    let Some(precincts) = PrecinctGrid::new(
+        case.tile, case.xrsiz, case.yrsiz, resolution, case.ppx, case.ppy,
+    ) else {
         return println!(rt; "out of range");
     };
     let component_tile = precincts.component_tile();
@@ -325,8 +205,8 @@ fn show_resolution(rt: &HostRuntime, case: &Case, resolution: Resolution) -> io:
         rt,
         &BlockGrid {
             precincts,
-            xcb,
-            ycb,
+            xcb: case.xcb,
+            ycb: case.ycb,
         },
     )
 }
@@ -342,11 +222,9 @@ fn show(rt: &HostRuntime, case: &Case) -> io::Result<()> {
 }
 
 fn main(rt: HostRuntime) -> io::Result<()> {
-    let mut number = 0u32;
-    for case in &CASES {
+    for (number, case) in cases().iter().enumerate() {
         println!(rt; "case {number}")?;
         show(&rt, case)?;
-        number = number.saturating_add(1);
     }
     Ok(())
 }

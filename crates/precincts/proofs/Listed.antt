@@ -1,28 +1,17 @@
 -- The precincts of a resolution by number.
-use Rattle.std.proofs.Common.{◌≡◌, ℕ, zero, suc, ◌+◌, ◌*◌, ◌/◌, ◌%◌, ◌<◌, ◌≤◌, Bool, true, false, cond, ◌||◌, eqb, map, length, Some, None, Option, sym, refl, ap, ◌∙◌, subst, ap₂, mul_comm, div-add-mod', zero-mul, arith}
+use Rattle.std.proofs.Common.{◌≡◌, ℕ, ◌+◌, ◌*◌, ◌/◌, ◌%◌, ◌<◌, ◌≤◌, Bool, true, false, cond, ◌||◌, eqb, map, length, Some, None, Option, sym, refl, ap, ◌∙◌, subst, ap₂, div-add-mod', arith}
 use Rattle.std.specs.List.{range_with_len}
-use Rattle.std.proofs.lemmas.Nat.{div_below, mod_below}
 use Rattle.std.proofs.lemmas.List.FromFn.{fill_by_all}
 use Rattle.std.proofs.lemmas.Bool.{ne_eqb, or_from, or_parts}
 use Rattle.faults.specs.declared.decode.DecodeError.{DecodeError}
 use Rattle.faults.specs.declared.decode.DecodeError.TheVariants.{Decoding}
 use Rattle.faults.specs.declared.decode.DecodingError.TheVariants.{InvalidPrecinct, PrecinctTooFar}
 use Rattle.rect.specs.Spans.{rect}
-use Rattle.rect.proofs.Places.{get_or_product, length_product}
+use Rattle.rect.proofs.Places.{column_below, get_or_product, length_product, row_below}
 use Rattle.precincts.specs.declared.precinct.PrecinctData.{PrecinctData}
 use Rattle.precincts.specs.Precincts.{Direction, bounds, count, cover, far, precinct_at, precinct_in, precincts, refusal, start, unfit}
 use Rattle.precincts.specs.Asked.{blank, NumberIs, PrecinctIs}
 use Rattle.precincts.proofs.Ways.{behind, inside, place}
-
-some_columns : (n m k : ℕ) → k < n * m → 0 < n
-some_columns zero m k h = omega (arith, zero-mul m)
-some_columns (suc n) m k h = omega arith
-
-pub column_below : (n m k : ℕ) → k < n * m → k % n < n
-column_below n m k h = mod_below k n (some_columns n m k h)
-
-pub row_below : (n m k : ℕ) → k < n * m → k / n < m
-row_below n m k h = div_below k n m (some_columns n m k h) (omega (arith, mul_comm n m))
 
 pub number : (x y : Direction) → length (precincts x y) ≡ count x * count y
 number x y = length_product (precinct_in x y) (count x) (count y)

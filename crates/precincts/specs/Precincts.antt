@@ -1,5 +1,5 @@
 -- The precincts of a resolution of a component tile (T.800 B.6), and their places on the reference grid (B.12.1.3).
-use Rattle.std.specs.Prelude.{ℕ, zero, suc, ◌+◌, ◌-◌, ◌*◌, ◌/◌, ◌%◌, ◌^◌, Bool, cond, ◌&&◌, ◌||◌, List, is_some, Some, None, Option, ◌==◌, nat_le, nat_lt, slice_index}
+use Rattle.std.specs.Prelude.{ℕ, zero, suc, ◌+◌, ◌-◌, ◌*◌, ◌/◌, ◌%◌, ◌^◌, Bool, ◌&&◌, ◌||◌, List, Some, None, Option, ◌==◌, nat_le, nat_lt, if◌then◌else◌, slice_index}
 use Rattle.std.specs.List.{range_with_len}
 use Rattle.faults.specs.declared.decode.DecodeError.{DecodeError}
 use Rattle.faults.specs.declared.decode.DecodeError.TheVariants.{Decoding}
@@ -30,7 +30,7 @@ reach d = shrunk (2 ^ (d.levels - d.r)) (shrunk d.step d.over)
 -- numprecinctswide, numprecinctshigh (B-16)
 abbrev pub count : Direction → ℕ
 count d =
-    cond (nat_lt (reach d).from (reach d).to) (ceil (reach d).to (2 ^ d.exponent) - (reach d).from / 2 ^ d.exponent) 0
+    if nat_lt (reach d).from (reach d).to then ceil (reach d).to (2 ^ d.exponent) - (reach d).from / 2 ^ d.exponent else 0
 
 -- the exponent in the coordinates of the sub-bands, which halve those of a resolution above 0
 abbrev pub halved : ℕ → ℕ → ℕ
@@ -54,7 +54,7 @@ starts d = climb (stride d) (first_start_of d) (count d)
 
 -- the same in closed form: the first lies in the cell of the first precinct, and each later one begins its own
 abbrev pub start : Direction → ℕ → ℕ
-start d k = cond (k == 0) (first_start_of d) (((reach d).from / 2 ^ d.exponent + k) * stride d)
+start d k = if k == 0 then first_start_of d else ((reach d).from / 2 ^ d.exponent + k) * stride d
 
 -- a size of 2^0 that cannot be halved, or one of 2^32 or more
 abbrev pub unfit : Direction → Bool
@@ -68,11 +68,10 @@ far d = nat_le (2 ^ 32) (cover d (count d - 1)).to
 -- nothing is refused where there are no precincts; else first sizes, then ends
 abbrev pub refusal : Direction → Direction → Option DecodeError
 refusal x y =
-    cond (count x == 0 || count y == 0) None
-    (cond (unfit x || unfit y) (Some (Decoding InvalidPrecinct)) (cond (far x || far y) (Some (Decoding PrecinctTooFar)) None))
-
-abbrev pub refused : Direction → Direction → Bool
-refused x y = is_some (refusal x y)
+    if count x == 0 || count y == 0 then None
+    else if unfit x || unfit y then Some (Decoding InvalidPrecinct)
+    else if far x || far y then Some (Decoding PrecinctTooFar)
+    else None
 
 abbrev pub bounds : Rect → IntRect
 bounds r = record { x0 = r.x.from; y0 = r.y.from; x1 = r.x.to; y1 = r.y.to }

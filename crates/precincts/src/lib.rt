@@ -2,6 +2,7 @@
 #![tactic(auto)]
 
 pub mod axis;
+mod axis_precinct;
 mod direction;
 pub mod grid;
 pub mod precinct;
@@ -11,15 +12,11 @@ ghost use Rattle.precincts.specs.Laws.{PrecinctLaws};
 ghost use Rattle.precincts.specs.Worked.{PrecinctsWorked};
 
 /// The places of the precincts stand at next multiples and have a closed form; a direction ends at 2^32 or behind it where some precinct does.
-pub fn precinct_laws() -> u8
+pub fn precinct_laws()
     ensures { PrecinctLaws }
-{
-    0
-}
+{}
 
 /// The precincts of a small tile, worked out from the definitions.
-pub fn precincts_worked() -> u8
+pub fn precincts_worked()
     ensures { PrecinctsWorked }
-{
-    0
-}
+{}

@@ -1,15 +1,17 @@
 //! The precincts of a resolution by number.
-ghost use Rattle.std.specs.Prelude.{◌≡◌, ◌*◌, ◌/◌, ◌%◌, ◌<◌, false};
+ghost use Rattle.std.specs.Prelude.{◌≡◌};
 ghost use Rattle.rect.specs.Rects.{region};
-ghost use Rattle.precincts.specs.Precincts.{component_tile_of, count, far, precinct_in, refusal};
+ghost use Rattle.precincts.specs.Precincts.{component_tile_of, count, refusal};
 ghost use Rattle.precincts.specs.Asked.{across, down, Counted, Made, PrecinctAnswer};
 
 use crate::axis::PrecinctAxis;
+use crate::axis_precinct::AxisPrecinct;
 use crate::grid::PrecinctGrid;
 use crate::precinct::PrecinctData;
 use bands::resolution::Resolution;
 use faults::decode::{BookError, DecodeError, DecodingError};
 use rect::IntRect;
+use rect::cell::Cell;
 
 impl PrecinctGrid {
     /// A resolution of a component tile, from the tile on the reference grid, XRsiz and YRsiz, PPx and PPy; none where a step is 0 or an
@@ -24,16 +26,7 @@ impl PrecinctGrid {
     ) -> Option<PrecinctGrid>
         ensures { Made tile xrsiz yrsiz resolution ppx ppy result }
     {
-        if xrsiz == 0 {
-            return None;
-        }
-        if yrsiz == 0 {
-            return None;
-        }
-        if ppx > 15 {
-            return None;
-        }
-        if ppy > 15 {
+        if xrsiz == 0 || yrsiz == 0 || ppx > 15 || ppy > 15 {
             return None;
         }
         let x = PrecinctAxis {
@@ -79,24 +72,17 @@ impl PrecinctGrid {
         self.y.count()
     }
 
-    // As many as there are by B-16.
-    fn number(&self) -> u64
-        ensures { result ≡ count (across self.now) * count (down self.now) }
-    {
-        u64::from(self.num_precincts_x()) * u64::from(self.num_precincts_y())
-    }
-
     /// What refuses the precincts: sizes that give none, or an end at 2^32 or behind it. Nothing where there are none.
     pub fn refusal(&self) -> Option<DecodeError>
         ensures { result ≡ refusal (across self.now) (down self.now) }
     {
-        if (self.num_precincts_x() == 0) | (self.num_precincts_y() == 0) {
+        if self.num_precincts_x() == 0 || self.num_precincts_y() == 0 {
             return None;
         }
-        if self.x.is_unfit() | self.y.is_unfit() {
+        if self.x.is_unfit() || self.y.is_unfit() {
             return Some(DecodeError::Decoding(DecodingError::InvalidPrecinct));
         }
-        if self.x.is_far() | self.y.is_far() {
+        if self.x.is_far() || self.y.is_far() {
             return Some(DecodeError::Decoding(DecodingError::PrecinctTooFar));
         }
         None
@@ -109,57 +95,37 @@ impl PrecinctGrid {
         if let Some(fault) = self.refusal() {
             return Err(fault);
         }
-        Ok(self.number())
-    }
-
-    fn column(&self, k: u64) -> u32
-        requires { k < count (across self.now) * count (down self.now) }
-        ensures value { result ≡ k % count (across self.now) }
-        ensures below { result < count (across self.now) }
-    {
-        let wide = u64::from(self.num_precincts_x());
-        self.x.numbered(k % wide)
-    }
-
-    fn row(&self, k: u64) -> u32
-        requires { k < count (across self.now) * count (down self.now) }
-        ensures value { result ≡ k / count (across self.now) }
-        ensures below { result < count (down self.now) }
-    {
-        let wide = u64::from(self.num_precincts_x());
-        self.y.numbered(k / wide)
-    }
-
-    // Precinct `k`, which is one of the resolution's.
-    fn precinct_by_number(&self, k: u64) -> PrecinctData
-        requires { (k < count (across self.now) * count (down self.now)) × ((far (across self.now) ≡ false) × (far (down self.now) ≡ false)) }
-        ensures { result ≡ precinct_in (across self.now) (down self.now) (k % count (across self.now)) (k / count (across self.now)) }
-    {
-        let i = self.column(k);
-        let j = self.row(k);
-        PrecinctData {
-            r_x: self.x.start(i),
-            r_y: self.y.start(j),
-            rect: IntRect {
-                x0: self.x.cover_start(i),
-                y0: self.y.cover_start(j),
-                x1: self.x.cover_end(i),
-                y1: self.y.cover_end(j),
-            },
-            idx: k,
-        }
+        Ok(u64::from(self.num_precincts_x()) * u64::from(self.num_precincts_y()))
     }
 
     /// Precinct `k`, row by row, if there is one and the precincts are not refused.
     pub fn precinct(&self, k: u64) -> Result<PrecinctData, DecodeError>
         ensures { PrecinctAnswer (across self.now) (down self.now) k result }
     {
-        if k >= self.number() {
-            return Err(DecodeError::Book(BookError::NoSuchIndex));
-        }
+        let Some(cell) = Cell::new(self.num_precincts_x(), self.num_precincts_y(), k) else {
+            return Err(BookError::NoSuchIndex.into());
+        };
         if let Some(fault) = self.refusal() {
             return Err(fault);
         }
-        Ok(self.precinct_by_number(k))
+        let column = AxisPrecinct {
+            axis: self.x,
+            k: cell.column(),
+        };
+        let row = AxisPrecinct {
+            axis: self.y,
+            k: cell.row(),
+        };
+        Ok(PrecinctData {
+            r_x: column.start(),
+            r_y: row.start(),
+            rect: IntRect {
+                x0: column.cover_start(),
+                y0: row.cover_start(),
+                x1: column.cover_end(),
+                y1: row.cover_end(),
+            },
+            idx: k,
+        })
     }
 }

@@ -1,7 +1,8 @@
 -- Exactly one, by its place; and a list of rows as a list by number.
-use Rattle.std.proofs.Common.{◌≡◌, ℕ, zero, suc, ◌+◌, ◌*◌, ◌/◌, ◌%◌, ◌<◌, ◌≤◌, Bool, true, false, cond, List, [], ◌∷◌, ◌++◌, map, length, get_or, sum_by, sym, refl, ap, ◌∙◌, ap₂, mul_comm, arith}
+use Rattle.std.proofs.Common.{◌≡◌, ℕ, zero, suc, ◌+◌, ◌*◌, ◌/◌, ◌%◌, ◌<◌, ◌≤◌, Bool, true, false, cond, List, [], ◌∷◌, ◌++◌, map, length, get_or, sum_by, sym, refl, ap, ◌∙◌, ap₂, mul_comm, zero-mul, arith}
 use Rattle.std.specs.List.{range_with_len}
-use Rattle.std.proofs.lemmas.Nat.{div-mul-add, mod-mul-add}
+use Rattle.std.proofs.lemmas.Nat.{div-mul-add, div_below, mod-mul-add, mod_below}
+use Rattle.std.proofs.lemmas.List.{map-append}
 use Rattle.std.proofs.lemmas.List.FromFn.{get_or-map-range_with_len, length-map-range_with_len}
 use Rattle.std.proofs.lemmas.List.Sums.{sum_by-cons}
 use Rattle.rect.specs.Spans.{holds}
@@ -39,11 +40,7 @@ sole {A} p (a ∷ l) e = go (p a) refl (sole p l)
 pub count_one : CountOne
 count_one x y l e = sole (holds x y) l e
 
-map_append : {A B : Type 0} (f : A → B) (l m : List A) → map f (l ++ m) ≡ map f l ++ map f m
-map_append f [] m = refl
-map_append f (a ∷ l) m = ap (λ r. f a ∷ r) (map_append f l m)
-
-map_map : {A B C : Type 0} (g : B → C) (f : A → B) (l : List A) → map g (map f l) ≡ map (λ a. g (f a)) l
+pub map_map : {A B C : Type 0} (g : B → C) (f : A → B) (l : List A) → map g (map f l) ≡ map (λ a. g (f a)) l
 map_map g f [] = refl
 map_map g f (a ∷ l) = ap (λ r. g (f a) ∷ r) (map_map g f l)
 
@@ -73,8 +70,19 @@ rows f n j (suc m) =
     let d : (j + 1) * n ≡ j * n + n = omega arith in
     let z : j * n + 0 ≡ j * n = omega arith in
     ap₂ ◌++◌ (row f n j 0 n (omega arith) ∙ ap (λ x. map g (range_with_len x n)) z) (rows f n (j + 1) m ∙ ap (λ x. map g (range_with_len x (m * n))) d)
-    ∙ sym (map_append g (range_with_len (j * n) n) (range_with_len (j * n + n) (m * n)))
+    ∙ sym (map-append g (range_with_len (j * n) n) (range_with_len (j * n + n) (m * n)))
     ∙ ap (map g) (sym (counting_append (j * n) n (m * n)) ∙ ap (range_with_len (j * n)) (sym e))
+
+-- a number below n * m stands in a column below n and a row below m
+some_columns : (n m k : ℕ) → k < n * m → 0 < n
+some_columns zero m k h = omega (arith, zero-mul m)
+some_columns (suc n) m k h = omega arith
+
+pub column_below : (n m k : ℕ) → k < n * m → k % n < n
+column_below n m k h = mod_below k n (some_columns n m k h)
+
+pub row_below : (n m k : ℕ) → k < n * m → k / n < m
+row_below n m k h = div_below k n m (some_columns n m k h) (omega (arith, mul_comm n m))
 
 -- rows and columns by number: item t stands in column t % n and row t / n
 pub row_by_row : {A : Type 0} (f : ℕ → ℕ → A) (n m : ℕ) → product f (range_with_len 0 n) (range_with_len 0 m) ≡ map (λ t. f (t % n) (t / n)) (range_with_len 0 (m * n))
@@ -91,4 +99,4 @@ length_product f n m =
 
 pub map_product : {A B : Type 0} (g : A → B) (f : ℕ → ℕ → A) (l m : List ℕ) → map g (product f l m) ≡ product (λ i j. g (f i j)) l m
 map_product g f l [] = refl
-map_product g f l (b ∷ m) = map_append g (map (λ a. f a b) l) (product f l m) ∙ ap₂ ◌++◌ (map_map g (λ a. f a b) l) (map_product g f l m)
+map_product g f l (b ∷ m) = map-append g (map (λ a. f a b) l) (product f l m) ∙ ap₂ ◌++◌ (map_map g (λ a. f a b) l) (map_product g f l m)

@@ -1,6 +1,6 @@
 -- A weight of spans that adds up: F to - F from for a rising F. Lengths (F the identity), "holds p" (F rising from 0 to 1 at p) and lengths
 -- after a division (F the quotient rounded up) are such weights, so one proof over F serves areas, points and components.
-use Rattle.std.proofs.Common.{◌≡◌, ℕ, zero, suc, ◌+◌, ◌-◌, ◌*◌, ◌<◌, ◌≤◌, min, max, Bool, true, false, cond, ◌⊎◌, List, [], ◌∷◌, ◌++◌, map, filter, sym, refl, ap, ◌∙◌, ap₂, inl, inr, mul-zero, zero-mul, arith}
+use Rattle.std.proofs.Common.{◌≡◌, ℕ, zero, suc, ◌+◌, ◌-◌, ◌*◌, ◌<◌, ◌≤◌, min, max, Bool, true, false, cond, ◌&&◌, ◌⊎◌, List, [], ◌∷◌, ◌++◌, map, filter, sym, refl, ap, ◌∙◌, ap₂, inl, inr, mul-zero, zero-mul, arith}
 use Rattle.std.specs.List.{range_with_len}
 use Rattle.std.proofs.lemmas.Bool.{cases_lt}
 use Rattle.std.proofs.lemmas.Bool.Decides.{nat_tests}
@@ -161,7 +161,7 @@ held_1 : (p : ℕ) (s : Span) → cond (within p s) 1 0 ≡ weight (past p) s
 unfolding past
 held_1 p s = grind (arith, nat_tests)
 
-both : (a b : Bool) → cond {A = ℕ} (cond a b false) 1 0 ≡ cond a 1 0 * cond b 1 0
+both : (a b : Bool) → cond {A = ℕ} (a && b) 1 0 ≡ cond a 1 0 * cond b 1 0
 both true true = refl
 both true false = refl
 both false true = refl

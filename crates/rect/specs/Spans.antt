@@ -1,5 +1,5 @@
 -- Spans of whole numbers, rectangles, and cells of a grid. A span holds `from` and not `to`; it is empty where to ≤ from.
-use Rattle.std.specs.Prelude.{ℕ, ◌+◌, ◌-◌, ◌*◌, min, max, Bool, false, cond, nat_le, nat_lt}
+use Rattle.std.specs.Prelude.{ℕ, ◌+◌, ◌-◌, ◌*◌, min, max, Bool, ◌&&◌, nat_le, nat_lt}
 use Rattle.rect.specs.Numbers.{ceil}
 
 pub record Span : Type 0 where
@@ -24,15 +24,15 @@ area r = width r.x * width r.y
 
 -- p lies in the span
 abbrev pub within : ℕ → Span → Bool
-within p s = cond (nat_le s.from p) (nat_lt p s.to) false
+within p s = nat_le s.from p && nat_lt p s.to
 
 -- the point (px, py) lies in the rectangle
 abbrev pub holds : ℕ → ℕ → Rect → Bool
-holds px py r = cond (within px r.x) (within py r.y) false
+holds px py r = within px r.x && within py r.y
 
 -- the rectangle holds some point
 abbrev pub filled : Rect → Bool
-filled r = cond (nat_lt r.x.from r.x.to) (nat_lt r.y.from r.y.to) false
+filled r = nat_lt r.x.from r.x.to && nat_lt r.y.from r.y.to
 
 -- what two spans, two rectangles share
 abbrev pub meet : Span → Span → Span

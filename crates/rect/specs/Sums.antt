@@ -1,5 +1,5 @@
 -- Sums over lists, lists row by row, and what it is to cut a rectangle up.
-use Rattle.std.specs.Prelude.{◌≡◌, ℕ, ◌+◌, ◌<◌, Bool, true, false, cond, List, [], ◌∷◌, ◌++◌, map, length, slice_index_or}
+use Rattle.std.specs.Prelude.{◌≡◌, ℕ, ◌+◌, ◌<◌, Bool, true, false, List, [], ◌∷◌, ◌++◌, map, length, if◌then◌else◌, slice_index_or}
 use Rattle.rect.specs.Spans.{Rect, area, holds}
 
 -- the sum of a number of each item
@@ -18,7 +18,7 @@ product f columns rows = each (λ b. map (λ a. f a b) columns) rows
 
 -- how many of the rectangles hold the point
 abbrev pub holders : ℕ → ℕ → List Rect → ℕ
-holders px py l = total (λ r. cond (holds px py r) 1 0) l
+holders px py l = total (λ r. if holds px py r then 1 else 0) l
 
 -- a point of the whole lies in exactly one of the parts, a point outside it in none
 pub record ExactlyOne (whole : Rect) (parts : List Rect) : Type 0 where

@@ -1,10 +1,14 @@
 //! Rectangles of whole numbers: what they cover, what two of them share, and what it is to cut one up.
 #![tactic(auto)]
 
-ghost use Rattle.std.specs.Prelude.{◌≡◌};
-ghost use Rattle.rect.specs.Rects.{region, shared, Sized};
+pub mod cell;
+
+ghost use Rattle.std.specs.Prelude.{◌≡◌, Some};
+ghost use Rattle.rect.specs.Rects.{rect_text, region, shared, XywhAnswer};
 ghost use Rattle.rect.specs.Spans.{area, holds, rect, span, width};
 ghost use Rattle.rect.specs.Sums.{CountOne};
+
+use std::fmt;
 
 /// The rectangle [x0, x1) × [y0, y1); it is empty where an end is not above its start.
 #[derive(Clone, Copy, Debug, PartialEq, Eq)]
@@ -25,7 +29,7 @@ impl IntRect {
 
     /// The rectangle of width `w` and height `h` from (x, y), if its ends are numbers of 32 bits.
     pub fn from_xywh(x: u32, y: u32, w: u32, h: u32) -> Option<IntRect>
-        ensures { Sized x y w h result }
+        ensures { XywhAnswer x y w h result }
     {
         let x1 = x.checked_add(w)?;
         let y1 = y.checked_add(h)?;
@@ -81,9 +85,16 @@ impl IntRect {
     }
 }
 
-/// Where one rectangle of a list holds a point, it is one place of the list.
-pub fn count_one() -> u8
-    ensures { CountOne }
-{
-    0
+/// Its edges, as x0,y0,x1,y1.
+impl fmt::Display for IntRect {
+    ghost output = { λ r. Some (rect_text r) };
+
+    fn fmt<W: fmt::Write>(&self, f: &mut fmt::Formatter<W>) -> fmt::Result {
+        write!(f, "{},{},{},{}", self.x0, self.y0, self.x1, self.y1)
+    }
 }
+
+/// Where one rectangle of a list holds a point, it is one place of the list.
+pub fn count_one()
+    ensures { CountOne }
+{}

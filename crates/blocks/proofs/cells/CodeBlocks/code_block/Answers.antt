@@ -1,9 +1,16 @@
-use Rattle.std.proofs.Common.{arith}
-use Rattle.blocks.proofs.Numbered.{block_is, number_of}
+use Rattle.std.proofs.Common.{◌≡◌, ◌∙◌}
+use Rattle.rect.specs.Rects.{region}
+use Rattle.blocks.specs.Asked.{block_of, columns}
+use Rattle.blocks.proofs.Numbered.{block_is}
 use Rattle.blocks.proofs.cells.CodeBlocks.code_block.Goals as goal
 
-pub returns-then-k-number : goal.returns-then-k-number
-returns-then-k-number c = omega (arith, number_of c.args.self.now)
-
 pub returns : goal.returns
-returns c = block_is c.args.self.now c.args.k c.block_by_number.result (omega arith) c.block_by_number.ensures
+returns c =
+    let b = c.args.self.now in
+    let k = c.args.k in
+    let cell = c.in_ok-cell.cell in
+    let e = c.in_ok-cell.ensures in
+    let w : cell.columns ≡ columns b = e.grid.0 ∙ c.num_columns.ensures in
+    let there = simp (e.number, w, e.grid.1 ∙ c.num_rows.ensures) at cell.inside in
+    let closed : region c.from_ltrb.result ≡ block_of b k = cc in
+    block_is b k c.from_ltrb.result there closed

@@ -1,16 +1,16 @@
-use Rattle.std.proofs.Common.{◌≡◌, ℕ, ◌+◌, ◌*◌, ◌^◌, ◌<◌, sym, ap, ◌∙◌, subst, ap₂, mul-le-mul_right, arith}
+use Rattle.std.proofs.Common.{◌≡◌, ◌+◌, ◌*◌, ◌%◌, ◌^◌, ap, ◌∙◌, ap₂, mod-eq_of_lt, arith}
 use Rattle.precincts.specs.Precincts.{stride}
 use Rattle.precincts.specs.Asked.{direction}
-use Rattle.precincts.proofs.Ways.{stride_pos}
+use Rattle.precincts.proofs.Ways.{stride_pos, stride_small}
 use Rattle.precincts.proofs.axis.PrecinctAxis.stride.Goals as goal
 
 pub returns : goal.returns
 returns c =
     let a = c.args.self in
-    let e : c.from.result * c.two_to.result ≡ stride (direction a) =
-    ap₂ ◌*◌ c.from.ensures (c.two_to.ensures.value ∙ ap (λ n. 2 ^ (a.exponent + n)) c.depth.ensures) in
-    record {
-      value = e;
-      some = subst (λ (n : ℕ). 0 < n) (sym e) (stride_pos (direction a) a.stepped);
-      small = omega (arith, mul-le-mul_right {m = c.from.result} {n = 255} c.two_to.result (omega arith));
-    }
+    let d = direction a in
+    let e : c.from.result * 2 ^ (a.exponent + c.depth.result) ≡ stride d =
+    ap₂ (λ s n. s * 2 ^ (a.exponent + n)) c.from.ensures c.depth.ensures in
+    let small = stride_small d (omega arith) a.small a.resolution.few in
+    let value : (c.from.result * 2 ^ (a.exponent + c.depth.result)) % 2 ^ 64 ≡ stride d =
+    ap (λ n. n % 2 ^ 64) e ∙ mod-eq_of_lt (omega (arith, small)) in
+    record { value = value; some = omega (arith, stride_pos d a.stepped); small = omega arith }
