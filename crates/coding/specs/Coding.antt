@@ -1,8 +1,10 @@
 -- The COD and COC marker segments behind their markers (T.800 A.6.1 and A.6.2).
-use Rattle.std.specs.Prelude.{◌≡◌, ℕ, ◌+◌, ◌/◌, ◌%◌, ◌<◌, Bool, true, cond, ◌&&◌, List, [], ◌∷◌, map, drop, ◌==◌, nat_le, slice_index, slice_index_or}
+use Rattle.std.specs.Prelude.{◌≡◌, ℕ, ◌+◌, ◌/◌, ◌%◌, ◌<◌, Bool, if◌then◌else◌, ◌&&◌, List, [], ◌∷◌, map, drop, ◌==◌, nat_le, slice_index, slice_index_or}
 use Rattle.layouts.specs.Indices.{index_width, indexed}
 use Rattle.layouts.specs.Layouts.{Field, Layout, field, fields, behind, times, one, two, any}
 use Rattle.coding.specs.Styles.{IsStyle, bit, order_number, transform_number}
+use Rattle.layouts.specs.declared.header.HeaderKind.{HeaderKind}
+use Rattle.coding.specs.declared.parameters.PrecinctSize.{PrecinctSize}
 use Rattle.coding.specs.declared.parameters.CodingStyleParameters.{CodingStyleParameters}
 use Rattle.coding.specs.declared.parameters.CodingStyleComponent.{CodingStyleComponent}
 use Rattle.coding.specs.declared.parameters.CodingStyleDefault.{CodingStyleDefault}
@@ -37,16 +39,23 @@ precincts_layout n = times n (fields precinct_table)
 
 -- with bit 0 of Scod or Scoc a precinct size for each resolution from 0 to the levels, else none (Tables A.13 and A.23)
 abbrev pub precinct_size_count : ℕ → ℕ → ℕ
-precinct_size_count scod levels = cond (bit 0 scod) (levels + 1) 0
+precinct_size_count scod levels = if bit 0 scod then levels + 1 else 0
 
 -- Table A.15, the coding parameters, behind Scod or Scoc
 abbrev pub parameters_layout : ℕ → Layout
 parameters_layout scod = behind (fields block_table) (λ vs. precincts_layout (precinct_size_count scod (slice_index vs 0)))
 
+-- PPx and PPy of each resolution
+abbrev pub widths_of : List PrecinctSize → List ℕ
+widths_of ps = map (λ s. s.width) ps
+
+abbrev pub heights_of : List PrecinctSize → List ℕ
+heights_of ps = map (λ s. s.height) ps
+
 -- the exponents of each resolution by the precinct sizes vs; a resolution without one, above the levels too, has 15
-pub record MadeRows (w h : List ℕ) (vs : List ℕ) : Type 0 where
-  pub widths : (r : ℕ) → r < 33 → slice_index w r ≡ slice_index_or (map ppx vs) r 15
-  pub heights : (r : ℕ) → r < 33 → slice_index h r ≡ slice_index_or (map ppy vs) r 15
+pub record MadePrecincts (ps : List PrecinctSize) (vs : List ℕ) : Type 0 where
+  pub widths : (r : ℕ) → r < 33 → slice_index (widths_of ps) r ≡ slice_index_or (map ppx vs) r 15
+  pub heights : (r : ℕ) → r < 33 → slice_index (heights_of ps) r ≡ slice_index_or (map ppy vs) r 15
 
 -- the coding parameters that values say
 pub record MadeParameters (p : CodingStyleParameters) (vs : List ℕ) : Type 0 where
@@ -55,7 +64,7 @@ pub record MadeParameters (p : CodingStyleParameters) (vs : List ℕ) : Type 0 w
   pub height : p.height ≡ slice_index vs 2 + 2
   pub style : IsStyle (slice_index vs 3) p.style
   pub transformation : transform_number p.transformation ≡ slice_index vs 4
-  pub precincts : MadeRows p.widths p.heights (drop 5 vs)
+  pub precincts : MadePrecincts p.precincts (drop 5 vs)
 
 -- the most layers that are taken; Table A.14 has 65,535
 abbrev pub max_layers : ℕ
@@ -85,13 +94,9 @@ coc_table admits csiz = field two any ∷ field (index_width csiz) admits ∷ fi
 abbrev pub coc_of : (List ℕ → ℕ → Bool) → ℕ → Layout
 coc_of admits csiz = behind (fields (coc_table admits csiz)) (λ vs. parameters_layout (slice_index vs 2))
 
--- COC in a main header: the index is below Csiz
-abbrev pub coc_layout : ℕ → Layout
-coc_layout csiz = coc_of (indexed true csiz) csiz
-
--- COC in a tile-part header: any index
-abbrev pub tile_coc_layout : ℕ → Layout
-tile_coc_layout csiz = coc_of any csiz
+-- COC: in a main header the index is below Csiz, and in a tile-part header it is any
+abbrev pub coc_layout : HeaderKind → ℕ → Layout
+coc_layout header csiz = coc_of (indexed header csiz) csiz
 
 -- what the values of COC say: the component's index, and its coding style
 pub record MadeCoc (c : ℕ × CodingStyleComponent) (vs : List ℕ) : Type 0 where

@@ -1,5 +1,5 @@
 -- Where the fields of COD and COC stand, and where the segments end.
-use Rattle.std.specs.Prelude.{◌≡◌, ℕ, ◌+◌, Bool, cond, List, ◌∷◌, nat_lt}
+use Rattle.std.specs.Prelude.{◌≡◌, ℕ, ◌+◌, Bool, if◌then◌else◌, List, ◌∷◌, nat_lt}
 use Rattle.reader.specs.Bytes.{byte_at, word_at, part}
 use Rattle.layouts.specs.Indices.{index_width}
 use Rattle.layouts.specs.Layouts.{read, meaning, size, value_at}
@@ -8,11 +8,11 @@ use Rattle.coding.specs.Coding.{cod_layout, coc_of, precinct_size_count}
 
 -- (A-2)
 abbrev pub cod_length : ℕ → ℕ → ℕ
-cod_length scod levels = cond (bit 0 scod) (13 + levels) 12
+cod_length scod levels = if bit 0 scod then 13 + levels else 12
 
 -- (A-3)
 abbrev pub coc_length : ℕ → ℕ → ℕ → ℕ
-coc_length csiz scoc levels = cond (nat_lt csiz 257) (cond (bit 0 scoc) (10 + levels) 9) (cond (bit 0 scoc) (11 + levels) 10)
+coc_length csiz scoc levels = if nat_lt csiz 257 then if bit 0 scoc then 10 + levels else 9 else if bit 0 scoc then 11 + levels else 10
 
 -- the coding parameters from the place p on
 abbrev pub parameters_at : ℕ → List ℕ → ℕ → List ℕ

@@ -1,14 +1,14 @@
 -- What the sections of COD and COC are read into.
 use Rattle.std.specs.Prelude.{◌≡◌, ℕ, ◌+◌, List, length, ◌==◌, slice_index}
-use Rattle.coding.specs.Coding.{MadeRows, ppx, ppy}
+use Rattle.coding.specs.Coding.{ppx, ppy}
 use Rattle.coding.specs.Styles.{IsStyle, order_number, transform_number}
-use Rattle.coding.specs.declared.parameters.BlockFields.{BlockFields}
+use Rattle.coding.specs.declared.parameters.CodingStyleParameters.{CodingStyleParameters}
 use Rattle.coding.specs.declared.parameters.CodFields.{CodFields}
-use Rattle.coding.specs.declared.parameters.PrecinctRows.{PrecinctRows}
 use Rattle.coding.specs.declared.parameters.PrecinctSize.{PrecinctSize}
 use Rattle.coding.specs.declared.styles.CodingStyleFlags.{CodingStyleFlags}
 
-pub record MadeBlock (b : BlockFields) (vs : List ℕ) : Type 0 where
+-- the coding parameters before the precinct sizes
+pub record MadeBlock (b : CodingStyleParameters) (vs : List ℕ) : Type 0 where
   pub count : length vs ≡ 5
   pub levels : b.levels ≡ slice_index vs 0
   pub width : b.width ≡ slice_index vs 1 + 2
@@ -16,14 +16,11 @@ pub record MadeBlock (b : BlockFields) (vs : List ℕ) : Type 0 where
   pub style : IsStyle (slice_index vs 3) b.style
   pub transformation : transform_number b.transformation ≡ slice_index vs 4
 
--- one precinct size, and all of them
+-- one precinct size
 pub record MadeSize (s : PrecinctSize) (vs : List ℕ) : Type 0 where
   pub count : length vs ≡ 1
   pub width : s.width ≡ ppx (slice_index vs 0)
   pub height : s.height ≡ ppy (slice_index vs 0)
-
-abbrev pub MadePrecincts : PrecinctRows → List ℕ → Type 0
-MadePrecincts p vs = MadeRows p.widths p.heights vs
 
 -- COD before the coding parameters
 pub record MadeHead (h : CodFields) (vs : List ℕ) : Type 0 where

@@ -1,5 +1,6 @@
 -- What the bytes of COD and COC name.
-use Rattle.std.specs.Prelude.{◌≡◌, ℕ, ◌/◌, ◌%◌, ◌^◌, ◌<◌, Bool, Some, None, Option, ◌==◌}
+use Rattle.std.specs.Prelude.{◌≡◌, ℕ, ◌/◌, ◌%◌, ◌^◌, ◌<◌, Bool, Result, MatchResult, ◌==◌}
+use Rattle.layouts.specs.declared.reserved.ReservedNumber.{ReservedNumber}
 use Rattle.coding.specs.declared.styles.ProgressionOrder.{ProgressionOrder}
 use Rattle.coding.specs.declared.styles.ProgressionOrder.TheVariants as order
 use Rattle.coding.specs.declared.styles.WaveletTransform.{WaveletTransform}
@@ -15,18 +16,16 @@ order_number order.PositionComponentResolutionLayer = 3
 order_number order.ComponentPositionResolutionLayer = 4
 
 -- the order with a number; other numbers are reserved
-abbrev pub IsOrder : ℕ → Option ProgressionOrder → Type 0
-IsOrder v None = 4 < v
-IsOrder v (Some o) = order_number o ≡ v
+abbrev pub IsOrder : ℕ → Result ProgressionOrder ReservedNumber → Type 0
+IsOrder v r = MatchResult r (λ o. order_number o ≡ v) (λ e. (e.0 ≡ v) × (4 < v))
 
 -- Table A.20, transformation
 abbrev pub transform_number : WaveletTransform → ℕ
 transform_number transform.Irreversible97 = 0
 transform_number transform.Reversible53 = 1
 
-abbrev pub IsTransform : ℕ → Option WaveletTransform → Type 0
-IsTransform v None = 1 < v
-IsTransform v (Some t) = transform_number t ≡ v
+abbrev pub IsTransform : ℕ → Result WaveletTransform ReservedNumber → Type 0
+IsTransform v r = MatchResult r (λ t. transform_number t ≡ v) (λ e. (e.0 ≡ v) × (1 < v))
 
 -- bit k of a number, from the lowest
 abbrev pub bit : ℕ → ℕ → Bool

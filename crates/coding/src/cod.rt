@@ -1,7 +1,6 @@
 ghost use Rattle.coding.specs.Coding.{MadeCod, cod_layout, cod_table};
 ghost use Rattle.coding.specs.Sections.{MadeHead};
-ghost use Rattle.layouts.specs.Layouts.{Answers, fields, here};
-ghost use Rattle.std.specs.Prelude.{◌≡◌};
+ghost use Rattle.layouts.specs.Layouts.{Parses, fields};
 
 use crate::fields::coding_style_parameters;
 use crate::parameters::{CodFields, CodingStyleComponent, CodingStyleDefault};
@@ -14,13 +13,12 @@ use reader::reader::BitReader;
 pub const MAX_LAYERS: u16 = 32;
 
 fn cod_fields(reader: &mut BitReader<'_>) -> Result<CodFields, SegmentFault<COD>>
-    ensures answers { Answers (here (fields cod_table) reader.old) MadeHead reader.new result }
-    ensures same { reader.new.«data» ≡ reader.old.«data» }
+    ensures { Parses (fields cod_table) MadeHead reader.old reader.new result }
 {
     let _lcod = reader.read_u16()?;
     let raw = reader.read_byte()?;
     let at = reader.offset();
-    let Some(progression) = ProgressionOrder::from_u8(reader.read_byte()?) else {
+    let Ok(progression) = ProgressionOrder::try_from(reader.read_byte()?) else {
         return Err(SegmentFault::value(at));
     };
     let at = reader.offset();
@@ -39,8 +37,7 @@ fn cod_fields(reader: &mut BitReader<'_>) -> Result<CodFields, SegmentFault<COD>
 
 /// Reads COD, behind its marker.
 pub fn cod_marker(reader: &mut BitReader<'_>) -> Result<CodingStyleDefault, SegmentFault<COD>>
-    ensures answers { Answers (here cod_layout reader.old) MadeCod reader.new result }
-    ensures same { reader.new.«data» ≡ reader.old.«data» }
+    ensures { Parses cod_layout MadeCod reader.old reader.new result }
 {
     let head = cod_fields(reader)?;
     let parameters = coding_style_parameters(reader, head.flags)?;

@@ -1,9 +1,9 @@
 ghost use Rattle.std.specs.Prelude.{◌≡◌, ◌≤◌};
-ghost use Rattle.coding.specs.Coding.{MadeParameters, block_table, parameters_layout, precinct_size_count, precinct_table, precincts_layout};
-ghost use Rattle.coding.specs.Sections.{MadeBlock, MadePrecincts, MadeSize};
-ghost use Rattle.layouts.specs.Layouts.{Answers, fields, here};
+ghost use Rattle.coding.specs.Coding.{MadeParameters, MadePrecincts, block_table, parameters_layout, precinct_size_count, precinct_table, precincts_layout};
+ghost use Rattle.coding.specs.Sections.{MadeBlock, MadeSize};
+ghost use Rattle.layouts.specs.Layouts.{Parses, fields};
 
-use crate::parameters::{BlockFields, CodingStyleParameters, PrecinctRows, PrecinctSize};
+use crate::parameters::{CodingStyleParameters, PrecinctSize};
 use crate::styles::{CodeBlockStyle, CodingStyleFlags, WaveletTransform};
 use faults::segment::SegmentFault;
 use reader::reader::BitReader;
@@ -11,12 +11,18 @@ use reader::reader::BitReader;
 // The most decomposition levels.
 const MAX_LEVELS: u8 = 32;
 
-// The code-block's exponents are 2 more than their bytes, at most 10, and together at most 12.
+// The precinct size of a resolution for which the segment has none.
+const LARGEST: PrecinctSize = PrecinctSize {
+    width: 15,
+    height: 15,
+};
+
+// The coding parameters before any precinct size. The code-block's exponents are 2 more than their bytes, at most 10, and together at
+// most 12.
 fn block_fields<const CODE: u8>(
     reader: &mut BitReader<'_>,
-) -> Result<BlockFields, SegmentFault<CODE>>
-    ensures answers { Answers (here (fields block_table) reader.old) MadeBlock reader.new result }
-    ensures same { reader.new.«data» ≡ reader.old.«data» }
+) -> Result<CodingStyleParameters, SegmentFault<CODE>>
+    ensures { Parses (fields block_table) MadeBlock reader.old reader.new result }
 {
     let at = reader.offset();
     let levels = reader.read_byte()?;
@@ -33,22 +39,23 @@ fn block_fields<const CODE: u8>(
     if height > 8 || width + height > 8 {
         return Err(SegmentFault::value(at));
     }
-    let style = CodeBlockStyle::from_u8(reader.read_byte()?);
+    let style = CodeBlockStyle::from(reader.read_byte()?);
     let at = reader.offset();
-    let Some(transformation) = WaveletTransform::from_u8(reader.read_byte()?) else {
+    let Ok(transformation) = WaveletTransform::try_from(reader.read_byte()?) else {
         return Err(SegmentFault::value(at));
     };
-    Ok(BlockFields {
+    Ok(CodingStyleParameters {
         levels,
         width: width + 2,
         height: height + 2,
         style,
         transformation,
+        precincts: [LARGEST; 33],
     })
 }
 
 // How many precinct sizes there are.
-fn precinct_sizes(flags: CodingStyleFlags, levels: u8) -> u8
+fn precinct_count(flags: CodingStyleFlags, levels: u8) -> u8
     requires { levels ≤ 32 }
     ensures { result ≡ precinct_size_count flags.raw levels }
 {
@@ -58,8 +65,7 @@ fn precinct_sizes(flags: CodingStyleFlags, levels: u8) -> u8
 fn precinct_size<const CODE: u8>(
     reader: &mut BitReader<'_>,
 ) -> Result<PrecinctSize, SegmentFault<CODE>>
-    ensures answers { Answers (here (fields precinct_table) reader.old) MadeSize reader.new result }
-    ensures same { reader.new.«data» ≡ reader.old.«data» }
+    ensures { Parses (fields precinct_table) MadeSize reader.old reader.new result }
 {
     let size = reader.read_byte()?;
     Ok(PrecinctSize {
@@ -69,22 +75,18 @@ fn precinct_size<const CODE: u8>(
 }
 
 // The precinct sizes of the first `count` resolutions, and 15 for the others.
-fn precinct_rows<const CODE: u8>(
+fn precinct_sizes<const CODE: u8>(
     reader: &mut BitReader<'_>,
     count: u8,
-) -> Result<PrecinctRows, SegmentFault<CODE>>
+) -> Result<[PrecinctSize; 33], SegmentFault<CODE>>
     requires { count ≤ 33 }
-    ensures answers { Answers (here (precincts_layout count) reader.old) MadePrecincts reader.new result }
-    ensures same { reader.new.«data» ≡ reader.old.«data» }
+    ensures { Parses (precincts_layout count) MadePrecincts reader.old reader.new result }
 {
-    let mut widths = [15; 33];
-    let mut heights = [15; 33];
-    for k in 0..usize::from(count) {
-        let size = precinct_size(reader)?;
-        widths[k] = size.width;
-        heights[k] = size.height;
+    let mut sizes = [LARGEST; 33];
+    for size in sizes[..usize::from(count)].iter_mut() {
+        *size = precinct_size(reader)?;
     }
-    Ok(PrecinctRows { widths, heights })
+    Ok(sizes)
 }
 
 // The coding parameters behind Scod or Scoc.
@@ -92,20 +94,16 @@ pub(crate) fn coding_style_parameters<const CODE: u8>(
     reader: &mut BitReader<'_>,
     flags: CodingStyleFlags,
 ) -> Result<CodingStyleParameters, SegmentFault<CODE>>
-    ensures answers { Answers (here (parameters_layout flags.raw) reader.old) MadeParameters reader.new result }
-    ensures same { reader.new.«data» ≡ reader.old.«data» }
+    ensures { Parses (parameters_layout flags.raw) MadeParameters reader.old reader.new result }
 {
     let block = block_fields(reader)?;
-    let rows = precinct_rows(reader, precinct_sizes(flags, block.levels))?;
-    let widths = rows.widths;
-    let heights = rows.heights;
+    let precincts = precinct_sizes(reader, precinct_count(flags, block.levels))?;
     Ok(CodingStyleParameters {
         levels: block.levels,
         width: block.width,
         height: block.height,
         style: block.style,
         transformation: block.transformation,
-        widths,
-        heights,
+        precincts,
     })
 }

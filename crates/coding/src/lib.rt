@@ -10,9 +10,7 @@ pub mod parameters;
 pub mod styles;
 
 /// The fields of an accepted COD or COC stand at the standard's places, and it ends where its length must say.
-pub fn segments_placed() -> u8
+pub fn segments_placed()
     ensures cod { CodPlaces }
     ensures coc { CocPlaces }
-{
-    0
-}
+{}

@@ -1,20 +1,6 @@
-ghost use Rattle.std.specs.Prelude.{ℕ, ◌+◌, ◌≤◌, slice_index};
+ghost use Rattle.std.specs.Prelude.{◌+◌, ◌≤◌};
 
 use crate::styles::{CodeBlockStyle, CodingStyleFlags, ProgressionOrder, WaveletTransform};
-
-/// The fields of COD and COC before the precinct sizes.
-#[derive(Clone, Copy)]
-pub(crate) struct BlockFields {
-    pub(crate) levels: u8,
-    pub(crate) width: u8,
-    pub(crate) height: u8,
-    pub(crate) style: CodeBlockStyle,
-    pub(crate) transformation: WaveletTransform,
-    ghost deep: { levels ≤ 32 },
-    ghost wide: { (2 ≤ width) × (width ≤ 10) },
-    ghost high: { (2 ≤ height) × (height ≤ 10) },
-    ghost small: { width + height ≤ 12 },
-}
 
 /// The fields of COD before the coding parameters.
 #[derive(Clone, Copy)]
@@ -25,22 +11,15 @@ pub(crate) struct CodFields {
     pub(crate) mct: bool,
 }
 
-/// The precinct exponents of one resolution.
-#[derive(Clone, Copy)]
-pub(crate) struct PrecinctSize {
-    pub(crate) width: u8,
-    pub(crate) height: u8,
+/// The precinct exponents of a resolution.
+#[derive(Clone, Copy, Debug, PartialEq, Eq)]
+pub struct PrecinctSize {
+    /// PPx.
+    pub width: u8,
+    /// PPy.
+    pub height: u8,
     ghost narrow: { width ≤ 15 },
     ghost low: { height ≤ 15 },
-}
-
-/// The precinct exponents of each resolution.
-#[derive(Clone, Copy)]
-pub(crate) struct PrecinctRows {
-    pub(crate) widths: [u8; 33],
-    pub(crate) heights: [u8; 33],
-    ghost narrow: { (r : ℕ) → slice_index widths r ≤ 15 },
-    ghost low: { (r : ℕ) → slice_index heights r ≤ 15 },
 }
 
 /// The coding parameters, which COD and COC share. Every value keeps their ranges.
@@ -54,16 +33,12 @@ pub struct CodingStyleParameters {
     pub height: u8,
     pub style: CodeBlockStyle,
     pub transformation: WaveletTransform,
-    /// PPx of each resolution, 15 where the segment has no precinct size for it and above the levels.
-    pub widths: [u8; 33],
-    /// PPy of each resolution, likewise.
-    pub heights: [u8; 33],
+    /// The precinct size of each resolution, 15 and 15 where the segment has none for it and above the levels.
+    pub precincts: [PrecinctSize; 33],
     ghost deep: { levels ≤ 32 },
     ghost wide: { (2 ≤ width) × (width ≤ 10) },
     ghost high: { (2 ≤ height) × (height ≤ 10) },
     ghost small: { width + height ≤ 12 },
-    ghost narrow: { (r : ℕ) → slice_index widths r ≤ 15 },
-    ghost low: { (r : ℕ) → slice_index heights r ≤ 15 },
 }
 
 /// The coding style of a component.

@@ -1,6 +1,8 @@
 ghost use Rattle.std.specs.Prelude.{◌≡◌, ◌<◌};
 ghost use Rattle.coding.specs.Styles.{IsOrder, IsStyle, IsTransform, bit};
 
+use layouts::reserved::ReservedNumber;
+
 /// In which order a tile's packets follow one another (Table A.16).
 #[derive(Clone, Copy, Debug, PartialEq, Eq)]
 pub enum ProgressionOrder {
@@ -11,17 +13,19 @@ pub enum ProgressionOrder {
     ComponentPositionResolutionLayer,
 }
 
-impl ProgressionOrder {
-    pub(crate) fn from_u8(value: u8) -> Option<ProgressionOrder>
-        ensures { IsOrder value result }
-    {
+impl TryFrom<u8> for ProgressionOrder {
+    type Error = ReservedNumber;
+
+    ghost try_from_gives = { IsOrder };
+
+    fn try_from(value: u8) -> Result<ProgressionOrder, ReservedNumber> {
         match value {
-            0 => Some(ProgressionOrder::LayerResolutionComponentPosition),
-            1 => Some(ProgressionOrder::ResolutionLayerComponentPosition),
-            2 => Some(ProgressionOrder::ResolutionPositionComponentLayer),
-            3 => Some(ProgressionOrder::PositionComponentResolutionLayer),
-            4 => Some(ProgressionOrder::ComponentPositionResolutionLayer),
-            _ => None,
+            0 => Ok(ProgressionOrder::LayerResolutionComponentPosition),
+            1 => Ok(ProgressionOrder::ResolutionLayerComponentPosition),
+            2 => Ok(ProgressionOrder::ResolutionPositionComponentLayer),
+            3 => Ok(ProgressionOrder::PositionComponentResolutionLayer),
+            4 => Ok(ProgressionOrder::ComponentPositionResolutionLayer),
+            _ => Err(ReservedNumber(value)),
         }
     }
 }
@@ -33,14 +37,16 @@ pub enum WaveletTransform {
     Reversible53,
 }
 
-impl WaveletTransform {
-    pub(crate) fn from_u8(value: u8) -> Option<WaveletTransform>
-        ensures { IsTransform value result }
-    {
+impl TryFrom<u8> for WaveletTransform {
+    type Error = ReservedNumber;
+
+    ghost try_from_gives = { IsTransform };
+
+    fn try_from(value: u8) -> Result<WaveletTransform, ReservedNumber> {
         match value {
-            0 => Some(WaveletTransform::Irreversible97),
-            1 => Some(WaveletTransform::Reversible53),
-            _ => None,
+            0 => Ok(WaveletTransform::Irreversible97),
+            1 => Ok(WaveletTransform::Reversible53),
+            _ => Err(ReservedNumber(value)),
         }
     }
 }
@@ -97,10 +103,10 @@ pub struct CodeBlockStyle {
     pub segmentation: bool,
 }
 
-impl CodeBlockStyle {
-    pub(crate) fn from_u8(value: u8) -> CodeBlockStyle
-        ensures { IsStyle value result }
-    {
+impl From<u8> for CodeBlockStyle {
+    ghost from_gives = { IsStyle };
+
+    fn from(value: u8) -> CodeBlockStyle {
         CodeBlockStyle {
             bypass: bit_of(value, 0),
             reset: bit_of(value, 1),

@@ -1,7 +1,7 @@
 -- The PPM marker segment (T.800 A.7.4): Lppm, Zppm, and packets, each a length of four bytes, Nppm, and that many bytes.
-use Rattle.std.specs.Prelude.{◌≡◌, ℕ, zero, suc, ◌+◌, ◌≤◌, cond, List, [], ◌∷◌, length, take, drop, Some, None, Option, nat_le, slice_index}
+use Rattle.std.specs.Prelude.{◌≡◌, ℕ, zero, suc, ◌+◌, ◌≤◌, if◌then◌else◌, List, [], ◌∷◌, length, take, drop, Some, None, Option, nat_le, slice_index}
 use Rattle.reader.specs.Bytes.{IsPartOf}
-use Rattle.reader.specs.Reads.{bytes_of}
+use Rattle.reader.specs.Reads.{bytes_of, SameData}
 use Rattle.reader.specs.declared.reader.BitReader.{BitReader}
 use Rattle.layouts.specs.Layouts.{Layout, Reading, read, failed, meaning, followed, field, fields, behind, one, four, run, any}
 use Rattle.packed.specs.Segment.{segment_layout, cut}
@@ -16,7 +16,8 @@ packet_layout = behind (fields (field four any ∷ [])) (λ vs. fields (field (r
 -- from the place p on packets one behind another, until one ends at the segment's end; no more than n of them
 abbrev pub until_end : ℕ → ℕ → ℕ → Layout
 until_end zero end p = fields []
-until_end (suc n) end p = cond (nat_le end p) (fields []) (behind packet_layout (λ vs. until_end n end (slice_index vs 1 + slice_index vs 0)))
+until_end (suc n) end p =
+    if nat_le end p then fields [] else behind packet_layout (λ vs. until_end n end (slice_index vs 1 + slice_index vs 0))
 
 -- there are fewer packets than bytes
 abbrev pub packets_layout : ℕ → ℕ → Layout
@@ -66,8 +67,9 @@ pub record MadePacket (s : SegmentReader) (x : PpmPacket) (vs : List ℕ) : Type
   pub size : length x.«data».now ≡ slice_index vs 0
   pub bytes : IsPartOf (slice_index vs 0) s.reader.«data» (slice_index vs 1) x.«data»
 
-abbrev pub rest_layout : BitReader → Layout
-rest_layout b = packets_layout (length (bytes_of b)) b.place
+-- the packets up to the segment's end
+abbrev pub rest_layout : SegmentReader → Layout
+rest_layout s = packets_layout (length (bytes_of (cut s))) s.reader.place
 
 abbrev pub MadeCount : ℕ → List ℕ → Type 0
 MadeCount n vs = n ≡ length (packets_of vs)
@@ -78,20 +80,20 @@ pub record MadePpm (b : BitReader) (m : PpmMarkerData) (vs : List ℕ) : Type 0 
   pub zppm : m.zppm ≡ slice_index vs 2
   pub count : m.count ≡ length (packets_of (drop 3 vs))
   pub packets : packets_left m.packets ≡ packets_of (drop 3 vs)
-  pub stream : m.packets.reader.«data» ≡ b.«data»
+  pub stream : SameData b m.packets.reader
 
--- the first of the packets that are left, as a part of the codestream itself, and then the others are left; or none is left
-abbrev pub Takes : SegmentReader → SegmentReader → Option PpmPacket → Type 0
-Takes b a None = packets_left b ≡ []
-Takes b a (Some x) =
-    (packets_left b ≡ record { place = x.place; size = length x.«data».now } ∷ packets_left a)
-    × IsPartOf (length x.«data».now) b.reader.«data» x.place x.«data»
-    × (a.reader.«data» ≡ b.reader.«data»)
+-- the packet that a part of the codestream is
+abbrev pub packet_of : PpmPacket → Packet
+packet_of x = record { place = x.place; size = length x.«data».now }
 
--- and where none is left the reader stays as it is
+-- the first of the packets that are left, as a part of the codestream itself, and then the others are left; where none is left the reader
+-- stays as it is
 abbrev pub Hands : SegmentReader → SegmentReader → Option PpmPacket → Type 0
 Hands b a None = (packets_left b ≡ []) × (a ≡ b)
-Hands b a (Some x) = Takes b a (Some x)
+Hands b a (Some x) =
+    (packets_left b ≡ packet_of x ∷ packets_left a)
+    × IsPartOf (length x.«data».now) b.reader.«data» x.place x.«data»
+    × SameData b.reader a.reader
 
 -- more steps than there are bytes change nothing
 abbrev pub StepsEnough : Type 0

@@ -1,8 +1,8 @@
-ghost use Rattle.layouts.specs.Layouts.{Answers, here};
-ghost use Rattle.packed.specs.Ppm.{Hands, MadeCount, MadePacket, MadePpm, StepsEnough, StepsEnoughLeft, Takes, packet_layout, ppm_reading, rest_layout};
-ghost use Rattle.packed.specs.Segment.{Inside, cut};
-ghost use Rattle.reader.specs.Reads.{bytes_of};
-ghost use Rattle.std.specs.Prelude.{◌≡◌};
+ghost use Rattle.layouts.specs.Layouts.{Answers};
+ghost use Rattle.packed.specs.Ppm.{Hands, MadeCount, MadePacket, MadePpm, StepsEnough, StepsEnoughLeft, packet_layout, packets_left, ppm_reading, rest_layout};
+ghost use Rattle.packed.specs.Segment.{ParsesInside};
+ghost use Rattle.reader.specs.Reads.{SameData, bytes_of};
+ghost use Rattle.std.specs.Iterator.{item_count};
 
 use crate::segment::{SegmentReader, take_segment};
 use faults::segment::SegmentFault;
@@ -25,8 +25,7 @@ pub struct PpmMarkerData<'a> {
 }
 
 fn packet<'a>(inside: &mut SegmentReader<'a>) -> Result<PpmPacket<'a>, SegmentFault<PPM>>
-    ensures answers { Answers (here packet_layout (cut inside.old)) (MadePacket inside.old) (cut inside.new) result }
-    ensures same { Inside inside.old inside.new }
+    ensures { ParsesInside packet_layout (MadePacket inside.old) inside.old inside.new result }
 {
     let length = inside.read_u32()?;
     let place = inside.offset();
@@ -34,20 +33,9 @@ fn packet<'a>(inside: &mut SegmentReader<'a>) -> Result<PpmPacket<'a>, SegmentFa
     Ok(PpmPacket { place, data })
 }
 
-// The packet that stands there, or None where it is not whole.
-fn whole_packet<'a>(inside: &mut SegmentReader<'a>) -> Option<PpmPacket<'a>>
-    ensures { Takes inside.old inside.new result }
-{
-    match packet(inside) {
-        Ok(packet) => Some(packet),
-        Err(_) => None,
-    }
-}
-
-// Reads packets up to the segment's end.
+// Reads packets up to the segment's end. A `for` would not give the cause where one is cut.
 fn count_packets(inside: &mut SegmentReader<'_>) -> Result<usize, SegmentFault<PPM>>
-    ensures answers { Answers (here (rest_layout (cut inside.old)) (cut inside.old)) MadeCount (cut inside.new) result }
-    ensures same { Inside inside.old inside.new }
+    ensures { ParsesInside (rest_layout inside.old) MadeCount inside.old inside.new result }
 {
     let mut count = 0;
     while !inside.at_end() {
@@ -61,7 +49,7 @@ fn count_packets(inside: &mut SegmentReader<'_>) -> Result<usize, SegmentFault<P
 /// packets.
 pub fn ppm_marker<'a>(reader: &mut BitReader<'a>) -> Result<PpmMarkerData<'a>, SegmentFault<PPM>>
     ensures answers { Answers (ppm_reading (bytes_of reader.old) reader.old.place) (MadePpm reader.old) reader.new result }
-    ensures same { reader.new.«data» ≡ reader.old.«data» }
+    ensures same { SameData reader.old reader.new }
 {
     let mut inside = take_segment::<PPM>(reader)?;
     let zppm = inside.read_byte()?;
@@ -80,16 +68,27 @@ impl<'a> SegmentReader<'a> {
         ensures { Hands self.old self.new result }
     {
         let mut rest = *self;
-        let packet = whole_packet(&mut rest)?;
+        let packet = packet(&mut rest).ok()?;
         *self = rest;
         Some(packet)
     }
 }
 
+/// The packets of a PPM segment that are left.
+impl<'a> Iterator for SegmentReader<'a> {
+    type Item = PpmPacket<'a>;
+
+    ghost next_gives = { λ b r a. Hands b a r };
+
+    ghost remaining = { item_count packets_left };
+
+    fn next(&mut self) -> Option<PpmPacket<'a>> {
+        self.next_packet()
+    }
+}
+
 /// A segment has no more packets than bytes: that a reading stops after as many changes nothing.
-pub fn steps_enough() -> u8
+pub fn steps_enough()
     ensures reading { StepsEnough }
     ensures left { StepsEnoughLeft }
-{
-    0
-}
+{}

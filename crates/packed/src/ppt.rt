@@ -1,12 +1,12 @@
-ghost use Rattle.layouts.specs.Layouts.{Answers, here};
+ghost use Rattle.layouts.specs.Layouts.{Parses};
 ghost use Rattle.packed.specs.Ppt.{MadePpt, ppt_layout};
-ghost use Rattle.std.specs.Prelude.{◌≡◌};
 
 use faults::segment::SegmentFault;
 use layouts::markers::PPT;
 use reader::reader::BitReader;
 
-/// Packed packet headers of a tile-part: the index of the segment, and its bytes, which stand at `place`.
+/// Packed packet headers of a tile-part: the index of the segment, and its bytes, which stand at `place`. A type for the two, shared with
+/// `PpmPacket`, would only lengthen the paths.
 #[derive(Clone, Copy)]
 pub struct PptMarkerData<'a> {
     pub zppt: u8,
@@ -16,8 +16,7 @@ pub struct PptMarkerData<'a> {
 
 /// Reads the PPT segment whose marker stands before the reader.
 pub fn ppt_marker<'a>(reader: &mut BitReader<'a>) -> Result<PptMarkerData<'a>, SegmentFault<PPT>>
-    ensures answers { Answers (here ppt_layout reader.old) (MadePpt reader.old) reader.new result }
-    ensures same { reader.new.«data» ≡ reader.old.«data» }
+    ensures { Parses ppt_layout (MadePpt reader.old) reader.old reader.new result }
 {
     let at = reader.offset();
     let length = reader.read_u16()?;

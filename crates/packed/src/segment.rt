@@ -1,7 +1,7 @@
-ghost use Rattle.layouts.specs.Layouts.{Answers, here};
-ghost use Rattle.packed.specs.Segment.{HasRoom, Inside, MadeSegment, cut, segment_layout};
+ghost use Rattle.layouts.specs.Layouts.{Parses};
+ghost use Rattle.packed.specs.Segment.{AdvancesInside, HasRoom, MadeSegment, cut, segment_layout};
 ghost use Rattle.reader.specs.Bytes.{IsByte, IsLong, IsPartOf};
-ghost use Rattle.reader.specs.Reads.{Reads, bytes_of};
+ghost use Rattle.reader.specs.Reads.{bytes_of};
 ghost use Rattle.std.specs.Prelude.{◌≡◌, length, nat_le};
 
 use faults::segment::{ReadFault, SegmentFault};
@@ -34,16 +34,15 @@ impl<'a> SegmentReader<'a> {
         ensures { HasRoom len self.now result }
     {
         let place = self.reader.offset();
-        if place > self.end || self.end - place < len {
-            return Err(ReadFault { place });
+        match self.end.checked_sub(place) {
+            Some(left) if len <= left => Ok(()),
+            _ => Err(ReadFault { place }),
         }
-        Ok(())
     }
 
     /// The next byte.
     pub(crate) fn read_byte(&mut self) -> Result<u8, ReadFault>
-        ensures reads { Reads 1 IsByte (cut self.old) (cut self.new) result }
-        ensures same { Inside self.old self.new }
+        ensures { AdvancesInside 1 IsByte self.old self.new result }
     {
         self.room(1)?;
         self.reader.read_byte()
@@ -51,8 +50,7 @@ impl<'a> SegmentReader<'a> {
 
     /// The number in the next four bytes.
     pub(crate) fn read_u32(&mut self) -> Result<u32, ReadFault>
-        ensures reads { Reads 4 IsLong (cut self.old) (cut self.new) result }
-        ensures same { Inside self.old self.new }
+        ensures { AdvancesInside 4 IsLong self.old self.new result }
     {
         self.room(4)?;
         self.reader.read_u32()
@@ -60,8 +58,7 @@ impl<'a> SegmentReader<'a> {
 
     /// The next `len` bytes, as a part of the codestream.
     pub(crate) fn read_bytes(&mut self, len: usize) -> Result<&'a [u8], ReadFault>
-        ensures reads { Reads len (λ _. IsPartOf len self.old.reader.«data») (cut self.old) (cut self.new) result }
-        ensures same { Inside self.old self.new }
+        ensures { AdvancesInside len (IsPartOf len) self.old self.new result }
     {
         self.room(len)?;
         self.reader.read_bytes(len)
@@ -72,8 +69,7 @@ impl<'a> SegmentReader<'a> {
 pub(crate) fn take_segment<'a, const CODE: u8>(
     reader: &mut BitReader<'a>,
 ) -> Result<SegmentReader<'a>, SegmentFault<CODE>>
-    ensures answers { Answers (here segment_layout reader.old) (MadeSegment reader.old) reader.new result }
-    ensures same { reader.new.«data» ≡ reader.old.«data» }
+    ensures { Parses segment_layout (MadeSegment reader.old) reader.old reader.new result }
 {
     let at = reader.offset();
     let length = reader.read_u16()?;

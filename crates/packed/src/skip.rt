@@ -1,5 +1,6 @@
-ghost use Rattle.layouts.specs.Layouts.{Answers, here};
+ghost use Rattle.layouts.specs.Layouts.{Parses, here};
 ghost use Rattle.packed.specs.Segment.{place_after, segment_layout};
+ghost use Rattle.reader.specs.Reads.{SameData};
 ghost use Rattle.std.specs.Prelude.{◌≡◌};
 
 use crate::segment::take_segment;
@@ -11,8 +12,7 @@ use reader::reader::BitReader;
 pub fn skip_marker_segment<const CODE: u8>(
     reader: &mut BitReader<'_>,
 ) -> Result<(), SegmentFault<CODE>>
-    ensures answers { Answers (here segment_layout reader.old) (λ _ _. Unit {0}) reader.new result }
-    ensures same { reader.new.«data» ≡ reader.old.«data» }
+    ensures { Parses segment_layout (λ _ _. Unit {0}) reader.old reader.new result }
 {
     take_segment::<CODE>(reader)?;
     Ok(())
@@ -22,7 +22,7 @@ pub fn skip_marker_segment<const CODE: u8>(
 /// stands behind the length.
 pub fn skip_loosely(reader: &mut BitReader<'_>)
     ensures at { reader.new.place ≡ place_after (here segment_layout reader.old) }
-    ensures same { reader.new.«data» ≡ reader.old.«data» }
+    ensures same { SameData reader.old reader.new }
 {
     let _ = take_segment::<CRG>(reader);
 }

@@ -1,6 +1,5 @@
-ghost use Rattle.layouts.specs.Layouts.{Answers, fields, here};
+ghost use Rattle.layouts.specs.Layouts.{Parses, fields};
 ghost use Rattle.packed.specs.Sot.{MadeSot, sot_table};
-ghost use Rattle.std.specs.Prelude.{◌≡◌};
 
 use faults::segment::SegmentFault;
 use layouts::markers::SOT;
@@ -17,8 +16,7 @@ pub struct TilePartHeader {
 
 /// Reads the SOT segment whose marker stands before the reader.
 pub fn sot_marker(reader: &mut BitReader<'_>) -> Result<TilePartHeader, SegmentFault<SOT>>
-    ensures answers { Answers (here (fields sot_table) reader.old) MadeSot reader.new result }
-    ensures same { reader.new.«data» ≡ reader.old.«data» }
+    ensures { Parses (fields sot_table) MadeSot reader.old reader.new result }
 {
     let _lsot = reader.read_u16()?;
     let isot = reader.read_u16()?;

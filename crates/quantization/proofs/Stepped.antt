@@ -1,9 +1,8 @@
 -- Step sizes one behind another: how far a loop that reads them has come.
-use Rattle.std.proofs.Common.{◌≡◌, ℕ, zero, suc, ◌+◌, ◌<◌, ◌≤◌, List, [], ◌∷◌, ◌++◌, length, get_or, set, sym, refl, ap, ◌∙◌, arith, length-append}
-use Rattle.faults.specs.declared.segment.Cause.{Cause}
-use Rattle.layouts.specs.Layouts.{Reading, read, failed, meaning, fields, values_of}
+use Rattle.std.proofs.Common.{◌≡◌, ℕ, zero, suc, ◌+◌, ◌<◌, ◌≤◌, List, [], ◌∷◌, ◌++◌, length, get_or, set, replicate, sym, refl, ap, ap₂, ◌∙◌, arith, length-append, length-set}
+use Rattle.layouts.specs.Layouts.{Reading, read, meaning, fields, values_of}
 use Rattle.layouts.proofs.Exits.{is_read}
-use Rattle.layouts.proofs.Times.{Run, run_none, run_more, run_failed, run_all}
+use Rattle.layouts.proofs.Times.{Run, run_none, run_more, run_all}
 use Rattle.quantization.specs.declared.info.QuantizationStyle.{QuantizationStyle}
 use Rattle.quantization.specs.declared.info.StepSize.{StepSize}
 use Rattle.quantization.specs.Quantization.{step_table, steps_layout, step_of, kept, KeptEach, MadeStep, MadeSteps}
@@ -32,10 +31,18 @@ alone_is (w ∷ v ∷ ws) e = absurd (omega arith)
 pub record Stepped (s : QuantizationStyle) (n : ℕ) (d : List ℕ) (p0 k p : ℕ) (steps : List StepSize) : Type 0 where
   pub run : Run (fields (step_table s)) n d p0 k p
   pub long : length run.vs ≡ k
+  pub room : length steps ≡ 97
   pub says : steps ≡ kept 97 s run.vs
 
-pub stepped_none : (s : QuantizationStyle) (n : ℕ) (d : List ℕ) (p : ℕ) → Stepped s n d p 0 p (kept 97 s [])
-stepped_none s n d p = record { run = run_none (fields (step_table s)) n d p; long = refl; says = refl }
+pub stepped_none :
+    (s : QuantizationStyle) (n : ℕ) (d : List ℕ) (p : ℕ) (x : StepSize) → x.mantissa ≡ 0 → x.exponent ≡ 0 → Stepped s n d p 0 p (replicate 97 x)
+stepped_none s n d p x m e =
+    record {
+      run = run_none (fields (step_table s)) n d p;
+      long = refl;
+      room = refl;
+      says = ap₂ (λ (a b : ℕ). replicate 97 (record { mantissa = a; exponent = b })) m e;
+    }
 
 pub stepped_more :
     (s : QuantizationStyle) (n : ℕ) (d : List ℕ) (p0 k p : ℕ) (steps next : List StepSize) (x : StepSize) (ws : List ℕ) (q : ℕ)
@@ -45,6 +52,7 @@ stepped_more s n d p0 k p steps next x ws q r lt e m put =
     record {
       run = run_more (fields (step_table s)) n d p0 k p ws q r.run lt e;
       long = omega (arith, length-append r.run.vs ws, r.long, m.alone);
+      room = rw (put, length-set) r.room;
       says =
           put
           ∙ ap (λ (l : List StepSize). set l k x) r.says
@@ -53,11 +61,6 @@ stepped_more s n d p0 k p steps next x ws q r lt e m put =
           ∙ kept_push 97 s r.run.vs (get_or ws 0 0)
           ∙ ap (λ (l : List ℕ). kept 97 s (r.run.vs ++ l)) (sym (alone_is ws m.alone));
     }
-
-pub stepped_failed :
-    (s : QuantizationStyle) (n : ℕ) (d : List ℕ) (p0 k p : ℕ) (steps : List StepSize) (e : Cause) (q : ℕ) → Stepped s n d p0 k p steps
-    → k < n → meaning (fields (step_table s)) d p ≡ failed e q → meaning (steps_layout s n) d p0 ≡ failed e q
-stepped_failed s n d p0 k p steps e q r lt f = run_failed (fields (step_table s)) n d p0 k p e q r.run lt f
 
 pub stepped_all :
     (s : QuantizationStyle) (n : ℕ) (d : List ℕ) (p0 k p : ℕ) (steps : List StepSize) → Stepped s n d p0 k p steps → n ≤ k → k ≤ n

@@ -1,11 +1,23 @@
 -- The QCD and QCC marker segments (T.800 A.6.4 and A.6.5, Tables A.27 to A.31).
-use Rattle.std.specs.Prelude.{◌≡◌, ℕ, zero, suc, ◌+◌, ◌-◌, ◌/◌, ◌%◌, ◌<◌, ◌≤◌, Bool, cond, ◌&&◌, List, [], ◌∷◌, length, drop, Some, None, Option, ◌==◌, nat_le, nat_lt, slice_index, slice_index_or}
+use Rattle.std.specs.Prelude.{◌≡◌, ℕ, zero, suc, ◌+◌, ◌-◌, ◌/◌, ◌%◌, ◌<◌, ◌≤◌, Bool, if◌then◌else◌, ◌&&◌, List, [], ◌∷◌, length, drop, Some, None, Option, Result, MatchResult, ◌==◌, nat_le, nat_lt, slice_index, slice_index_or}
 use Rattle.layouts.specs.Indices.{index_width, indexed}
 use Rattle.layouts.specs.Layouts.{Layout, Width, Field, one, two, any, at_least, field, fields, behind, times, size}
+use Rattle.layouts.specs.declared.header.HeaderKind.{HeaderKind}
+use Rattle.layouts.specs.declared.reserved.ReservedNumber.{ReservedNumber}
 use Rattle.quantization.specs.declared.info.QuantizationStyle.{QuantizationStyle}
 use Rattle.quantization.specs.declared.info.QuantizationStyle.TheVariants.{NoQuantization, ScalarDerived, ScalarExpounded}
 use Rattle.quantization.specs.declared.info.StepSize.{StepSize}
 use Rattle.quantization.specs.declared.info.QuantizationInfo.{QuantizationInfo}
+
+-- Table A.28, style
+abbrev pub style_number : QuantizationStyle → ℕ
+style_number NoQuantization = 0
+style_number ScalarDerived = 1
+style_number ScalarExpounded = 2
+
+-- the style with a number; other numbers are reserved
+abbrev pub IsStyle : ℕ → Result QuantizationStyle ReservedNumber → Type 0
+IsStyle v r = MatchResult r (λ s. style_number s ≡ v) (λ e. (e.0 ≡ v) × (2 < v))
 
 -- how wide a step size is
 abbrev pub step_width : QuantizationStyle → Width
@@ -50,7 +62,7 @@ KeptEach =
 
 -- step size k, if there is one and it is kept
 abbrev pub step_at : QuantizationInfo → ℕ → Option StepSize
-step_at i k = cond (nat_lt k 97 && nat_lt k i.count) (Some (slice_index_or i.steps k none)) None
+step_at i k = if nat_lt k 97 && nat_lt k i.count then Some (slice_index_or i.steps k none) else None
 
 -- so many step sizes, one behind another
 abbrev pub steps_layout : QuantizationStyle → ℕ → Layout
@@ -65,7 +77,7 @@ abbrev pub styled : List ℕ → ℕ → Bool
 styled vs v = nat_le (v % 32) 2
 
 abbrev pub quantization_style_of : ℕ → QuantizationStyle
-quantization_style_of v = cond (v % 32 == 0) NoQuantization (cond (v % 32 == 1) ScalarDerived ScalarExpounded)
+quantization_style_of v = if v % 32 == 0 then NoQuantization else if v % 32 == 1 then ScalarDerived else ScalarExpounded
 
 -- what is made of Sqcd or Sqcc and the step sizes behind it; the high three bits are the number of guard bits
 pub record Made (i : QuantizationInfo) (sq : ℕ) (vs : List ℕ) : Type 0 where
@@ -89,12 +101,18 @@ abbrev pub MadeQcd : QuantizationInfo → List ℕ → Type 0
 MadeQcd i vs = Made i (slice_index vs 1) (drop 2 vs)
 
 -- Lqcc, Cqcc
-abbrev pub index_table : Bool → ℕ → List Field
-index_table main csiz = field two (at_least (size (index_width csiz) + 3)) ∷ field (index_width csiz) (indexed main csiz) ∷ []
+abbrev pub index_table : HeaderKind → ℕ → List Field
+index_table header csiz = field two (at_least (size (index_width csiz) + 3)) ∷ field (index_width csiz) (indexed header csiz) ∷ []
+
+-- the component's index, and how many bytes the step sizes have
+pub record MadeIndex (csiz : ℕ) (r : ℕ × ℕ) (vs : List ℕ) : Type 0 where
+  pub count : length vs ≡ 2
+  pub index : r.0 ≡ slice_index vs 1
+  pub len : r.1 ≡ slice_index vs 0 - (size (index_width csiz) + 3)
 
 -- QCC behind its marker (Table A.31): Lqcc, Cqcc; Sqcc, SPqcc
-abbrev pub qcc_layout : Bool → ℕ → Layout
-qcc_layout main csiz = behind (fields (index_table main csiz)) (λ vs. parameters_layout (slice_index vs 0 - (size (index_width csiz) + 3)))
+abbrev pub qcc_layout : HeaderKind → ℕ → Layout
+qcc_layout header csiz = behind (fields (index_table header csiz)) (λ vs. parameters_layout (slice_index vs 0 - (size (index_width csiz) + 3)))
 
 pub record MadeQcc (r : ℕ × QuantizationInfo) (vs : List ℕ) : Type 0 where
   pub index : r.0 ≡ slice_index vs 1

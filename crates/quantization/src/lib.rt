@@ -9,8 +9,6 @@ mod parameters;
 mod steps;
 
 /// Each step size that is kept is what the value at its place says.
-pub fn steps_kept() -> u8
+pub fn steps_kept()
     ensures { KeptEach }
-{
-    0
-}
+{}

@@ -1,35 +1,33 @@
-ghost use Rattle.layouts.specs.Layouts.{Answers, here};
-ghost use Rattle.quantization.specs.Quantization.{MadeQcc, MadeQcd, qcc_layout, qcd_layout};
-ghost use Rattle.std.specs.Prelude.{◌≡◌, true, false};
+ghost use Rattle.layouts.specs.Layouts.{Parses, fields};
+ghost use Rattle.quantization.specs.Quantization.{MadeIndex, MadeQcc, MadeQcd, index_table, qcc_layout, qcd_layout};
 
 use crate::info::QuantizationInfo;
 use crate::parameters::quantization_parameters;
 use faults::segment::SegmentFault;
+use layouts::header::HeaderKind;
 use layouts::index::{component_index, index_size};
 use layouts::markers::{QCC, QCD};
 use reader::reader::BitReader;
 
 /// Reads a QCD segment behind its marker.
 pub fn qcd_marker(reader: &mut BitReader<'_>) -> Result<QuantizationInfo, SegmentFault<QCD>>
-    ensures answers { Answers (here qcd_layout reader.old) MadeQcd reader.new result }
-    ensures same { reader.new.«data» ≡ reader.old.«data» }
+    ensures { Parses qcd_layout MadeQcd reader.old reader.new result }
 {
     let at = reader.offset();
     let length = reader.read_u16()?;
     if length < 3 {
         return Err(SegmentFault::value(at));
     }
-    let info = quantization_parameters(reader, length - 3)?;
-    Ok(info)
+    quantization_parameters(reader, length - 3)
 }
 
-fn qcc_segment(
+// Lqcc and Cqcc: the component's index, and how many bytes the step sizes have.
+fn qcc_fields(
     reader: &mut BitReader<'_>,
+    header: HeaderKind,
     csiz: u16,
-    main: bool,
-) -> Result<(u16, QuantizationInfo), SegmentFault<QCC>>
-    ensures answers { Answers (here (qcc_layout main csiz) reader.old) MadeQcc reader.new result }
-    ensures same { reader.new.«data» ≡ reader.old.«data» }
+) -> Result<(u16, u16), SegmentFault<QCC>>
+    ensures { Parses (fields (index_table header csiz)) (MadeIndex csiz) reader.old reader.new result }
 {
     let least = index_size(csiz) + 3;
     let at = reader.offset();
@@ -37,33 +35,20 @@ fn qcc_segment(
     if length < least {
         return Err(SegmentFault::value(at));
     }
-    let at = reader.offset();
-    let index = component_index(reader, csiz)?;
-    if main && index >= csiz {
-        return Err(SegmentFault::value(at));
-    }
-    let info = quantization_parameters(reader, length - least)?;
-    Ok((index, info))
+    let index = component_index(reader, header, csiz)?;
+    Ok((index, length - least))
 }
 
-/// Reads a QCC segment of a main header, behind its marker: the component's index, which is below `csiz`, and what is said of it.
+/// Reads a QCC segment behind its marker: the component's index, which in a main header is refused if not below `csiz`, and what is said
+/// of it.
 pub fn qcc_marker(
     reader: &mut BitReader<'_>,
+    header: HeaderKind,
     csiz: u16,
 ) -> Result<(u16, QuantizationInfo), SegmentFault<QCC>>
-    ensures answers { Answers (here (qcc_layout true csiz) reader.old) MadeQcc reader.new result }
-    ensures same { reader.new.«data» ≡ reader.old.«data» }
+    ensures { Parses (qcc_layout header csiz) MadeQcc reader.old reader.new result }
 {
-    qcc_segment(reader, csiz, true)
-}
-
-/// Reads a QCC segment of a tile-part, behind its marker: any index, and what is said of that component.
-pub fn tile_qcc_marker(
-    reader: &mut BitReader<'_>,
-    csiz: u16,
-) -> Result<(u16, QuantizationInfo), SegmentFault<QCC>>
-    ensures answers { Answers (here (qcc_layout false csiz) reader.old) MadeQcc reader.new result }
-    ensures same { reader.new.«data» ≡ reader.old.«data» }
-{
-    qcc_segment(reader, csiz, false)
+    let (index, len) = qcc_fields(reader, header, csiz)?;
+    let info = quantization_parameters(reader, len)?;
+    Ok((index, info))
 }

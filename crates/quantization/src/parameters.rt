@@ -1,21 +1,11 @@
-ghost use Rattle.layouts.specs.Layouts.{Answers, here};
-ghost use Rattle.quantization.specs.Quantization.{MadeParameters, parameters_layout, step_count_of, quantization_style_of};
+ghost use Rattle.layouts.specs.Layouts.{Parses};
+ghost use Rattle.quantization.specs.Quantization.{MadeParameters, parameters_layout, step_count_of};
 ghost use Rattle.std.specs.Prelude.{◌≡◌};
 
 use crate::info::{QuantizationInfo, QuantizationStyle};
 use crate::steps::step_sizes;
 use faults::segment::SegmentFault;
 use reader::reader::BitReader;
-
-fn style_of(sq: u8) -> QuantizationStyle
-    ensures { result ≡ quantization_style_of sq }
-{
-    match sq % 32 {
-        0 => QuantizationStyle::NoQuantization,
-        1 => QuantizationStyle::ScalarDerived,
-        _ => QuantizationStyle::ScalarExpounded,
-    }
-}
 
 // How many step sizes are in `len` bytes.
 fn step_count(style: QuantizationStyle, len: u16) -> u16
@@ -33,15 +23,13 @@ pub(crate) fn quantization_parameters<const CODE: u8>(
     reader: &mut BitReader<'_>,
     len: u16,
 ) -> Result<QuantizationInfo, SegmentFault<CODE>>
-    ensures answers { Answers (here (parameters_layout len) reader.old) MadeParameters reader.new result }
-    ensures same { reader.new.«data» ≡ reader.old.«data» }
+    ensures { Parses (parameters_layout len) MadeParameters reader.old reader.new result }
 {
     let at = reader.offset();
     let sq = reader.read_byte()?;
-    if sq % 32 > 2 {
+    let Ok(style) = QuantizationStyle::try_from(sq % 32) else {
         return Err(SegmentFault::value(at));
-    }
-    let style = style_of(sq);
+    };
     let count = step_count(style, len);
     let steps = step_sizes(reader, style, count)?;
     Ok(QuantizationInfo {

@@ -1,6 +1,5 @@
-ghost use Rattle.layouts.specs.Layouts.{Answers, fields, here};
+ghost use Rattle.layouts.specs.Layouts.{Parses, fields};
 ghost use Rattle.quantization.specs.Quantization.{MadeStep, MadeSteps, step_table, steps_layout};
-ghost use Rattle.std.specs.Prelude.{◌≡◌, slice_set};
 
 use crate::info::{KEPT, QuantizationStyle, StepSize};
 use faults::segment::SegmentFault;
@@ -10,8 +9,7 @@ fn step_size<const CODE: u8>(
     reader: &mut BitReader<'_>,
     style: QuantizationStyle,
 ) -> Result<StepSize, SegmentFault<CODE>>
-    ensures answers { Answers (here (fields (step_table style)) reader.old) (MadeStep style) reader.new result }
-    ensures same { reader.new.«data» ≡ reader.old.«data» }
+    ensures { Parses (fields (step_table style)) (MadeStep style) reader.old reader.new result }
 {
     match style {
         QuantizationStyle::NoQuantization => {
@@ -31,30 +29,21 @@ fn step_size<const CODE: u8>(
     }
 }
 
-// Step size k, where it is one of those that are kept.
-fn keep(steps: &mut [StepSize; KEPT], k: usize, step: StepSize)
-    ensures { steps.new ≡ slice_set steps.old k step }
-{
-    if k < KEPT {
-        steps[k] = step;
-    }
-}
-
+// All step sizes are read, and the first KEPT are kept.
 pub(crate) fn step_sizes<const CODE: u8>(
     reader: &mut BitReader<'_>,
     style: QuantizationStyle,
     count: u16,
 ) -> Result<[StepSize; KEPT], SegmentFault<CODE>>
-    ensures answers { Answers (here (steps_layout style count) reader.old) (MadeSteps style count) reader.new result }
-    ensures same { reader.new.«data» ≡ reader.old.«data» }
+    ensures { Parses (steps_layout style count) (MadeSteps style count) reader.old reader.new result }
 {
-    let mut steps = [StepSize {
-        mantissa: 0,
-        exponent: 0,
-    }; KEPT];
-    for k in 0..count {
+    let mut steps = [StepSize::default(); KEPT];
+    for k in 0..usize::from(count) {
         let step = step_size(reader, style)?;
-        keep(&mut steps, usize::from(k), step);
+        // `get_mut` would not say what the other elements hold.
+        if k < KEPT {
+            steps[k] = step;
+        }
     }
     Ok(steps)
 }

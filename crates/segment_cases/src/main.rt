@@ -2,41 +2,29 @@
 //! The headers were written by OpenJPEG 2.5.0 and Grok 10.0.5.
 #![tactic(auto)]
 
-use coding::coc::{coc_marker, tile_coc_marker};
+use coding::coc::coc_marker;
 use coding::cod::cod_marker;
 use coding::parameters::CodingStyleDefault;
-use faults::segment::Cause;
+use layouts::header::HeaderKind;
 use quantization::info::QuantizationInfo;
-use quantization::markers::{qcc_marker, qcd_marker, tile_qcc_marker};
+use quantization::markers::{qcc_marker, qcd_marker};
 use reader::reader::BitReader;
 use std::io;
 
-fn show_cause(rt: &HostRuntime, cause: &Cause) -> io::Result<()> {
-    match cause {
-        Cause::Short(fault) => {
-            let place = fault.place;
-            println!(rt; "short at {place}")
-        }
-        Cause::Value(place) => println!(rt; "refused at {place}"),
-    }
-}
-
 fn show_style(rt: &HostRuntime, cod: &CodingStyleDefault) -> io::Result<()> {
     let flags = cod.component.flags.raw;
+    print!(rt;
+        "flags {flags}, {:?}, layers {}, mct {}, ",
+        cod.progression, cod.layers, cod.mct
+    )?;
     let parameters = cod.component.parameters;
-    let progression = cod.progression;
-    let layers = cod.layers;
-    let mct = cod.mct;
-    print!(rt; "flags {flags}, {progression:?}, layers {layers}, mct {mct}, ")?;
-    let levels = parameters.levels;
-    let width = parameters.width;
-    let height = parameters.height;
-    let transformation = parameters.transformation;
-    print!(rt; "levels {levels}, blocks {width} {height}, {transformation:?}, precincts")?;
-    for r in 0..usize::from(levels) + 1 {
-        let across = parameters.widths[r];
-        let down = parameters.heights[r];
-        print!(rt; " {across} {down}")?;
+    print!(rt;
+        "levels {}, blocks {} {}, ",
+        parameters.levels, parameters.width, parameters.height
+    )?;
+    print!(rt; "{:?}, precincts", parameters.transformation)?;
+    for size in &parameters.precincts[..=usize::from(parameters.levels)] {
+        print!(rt; " {} {}", size.width, size.height)?;
     }
     println!(rt; "")
 }
@@ -46,40 +34,38 @@ fn cod(rt: &HostRuntime, label: &str, bytes: &[u8]) -> io::Result<()> {
     let mut reader = BitReader::new(bytes, 0);
     match cod_marker(&mut reader) {
         Ok(cod) => show_style(rt, &cod),
-        Err(fault) => show_cause(rt, &fault.cause),
+        Err(fault) => println!(rt; "{}", fault.cause),
     }
 }
 
-fn coc(rt: &HostRuntime, label: &str, bytes: &[u8], csiz: u16, main: bool) -> io::Result<()> {
+fn coc(
+    rt: &HostRuntime,
+    label: &str,
+    bytes: &[u8],
+    header: HeaderKind,
+    csiz: u16,
+) -> io::Result<()> {
     print!(rt; "COC {label}: ")?;
     let mut reader = BitReader::new(bytes, 0);
-    let answer = if main {
-        coc_marker(&mut reader, csiz)
-    } else {
-        tile_coc_marker(&mut reader, csiz)
-    };
-    match answer {
-        Ok(pair) => {
-            let index = pair.0;
-            let levels = pair.1.parameters.levels;
-            let end = reader.offset();
-            println!(rt; "component {index}, levels {levels}, ends at {end}")
+    match coc_marker(&mut reader, header, csiz) {
+        Ok((index, coc)) => {
+            let levels = coc.parameters.levels;
+            println!(rt;
+                "component {index}, levels {levels}, ends at {}",
+                reader.offset()
+            )
         }
-        Err(fault) => show_cause(rt, &fault.cause),
+        Err(fault) => println!(rt; "{}", fault.cause),
     }
 }
 
 fn show_steps(rt: &HostRuntime, info: &QuantizationInfo, end: usize) -> io::Result<()> {
-    let style = info.style;
-    let guard = info.guard;
-    let count = info.count;
-    print!(rt; "{style:?}, guard bits {guard}, {count} step sizes")?;
-    for k in 0..count {
-        if let Some(step) = info.step(k) {
-            let exponent = step.exponent;
-            let mantissa = step.mantissa;
-            print!(rt; " {exponent}:{mantissa}")?;
-        }
+    print!(rt;
+        "{:?}, guard bits {}, {} step sizes",
+        info.style, info.guard, info.count
+    )?;
+    for step in (0..info.count).filter_map(|k| info.step(k)) {
+        print!(rt; " {}:{}", step.exponent, step.mantissa)?;
     }
     println!(rt; ", ends at {end}")
 }
@@ -89,25 +75,25 @@ fn qcd(rt: &HostRuntime, label: &str, bytes: &[u8]) -> io::Result<()> {
     let mut reader = BitReader::new(bytes, 0);
     match qcd_marker(&mut reader) {
         Ok(info) => show_steps(rt, &info, reader.offset()),
-        Err(fault) => show_cause(rt, &fault.cause),
+        Err(fault) => println!(rt; "{}", fault.cause),
     }
 }
 
-fn qcc(rt: &HostRuntime, label: &str, bytes: &[u8], csiz: u16, main: bool) -> io::Result<()> {
+fn qcc(
+    rt: &HostRuntime,
+    label: &str,
+    bytes: &[u8],
+    header: HeaderKind,
+    csiz: u16,
+) -> io::Result<()> {
     print!(rt; "QCC {label}: ")?;
     let mut reader = BitReader::new(bytes, 0);
-    let answer = if main {
-        qcc_marker(&mut reader, csiz)
-    } else {
-        tile_qcc_marker(&mut reader, csiz)
-    };
-    match answer {
-        Ok(pair) => {
-            let index = pair.0;
+    match qcc_marker(&mut reader, header, csiz) {
+        Ok((index, info)) => {
             print!(rt; "component {index}, ")?;
-            show_steps(rt, &pair.1, reader.offset())
+            show_steps(rt, &info, reader.offset())
         }
-        Err(fault) => show_cause(rt, &fault.cause),
+        Err(fault) => println!(rt; "{}", fault.cause),
     }
 }
 
@@ -187,43 +173,43 @@ fn cocs(rt: &HostRuntime) -> io::Result<()> {
         rt,
         "of component 1",
         &[0, 9, 1, 1, 1, 4, 4, 0, 1, 0x77, 0x88],
+        HeaderKind::Main,
         3,
-        true,
     )?;
     coc(
         rt,
         "of component 2 of 2",
         &[0, 9, 2, 1, 1, 4, 4, 0, 1, 0x77, 0x88],
+        HeaderKind::Main,
         2,
-        true,
     )?;
     coc(
         rt,
         "of component 2 of 2, in a tile-part",
         &[0, 9, 2, 1, 1, 4, 4, 0, 1, 0x77, 0x88],
+        HeaderKind::TilePart,
         2,
-        false,
     )?;
     coc(
         rt,
         "of 256 components",
         &[0, 9, 1, 1, 1, 4, 4, 0, 1, 0x77, 0x88],
+        HeaderKind::Main,
         256,
-        true,
     )?;
     coc(
         rt,
         "of 257 components",
         &[0, 0x0A, 1, 0, 0, 1, 4, 4, 0, 1],
+        HeaderKind::Main,
         257,
-        true,
     )?;
     coc(
         rt,
         "of component 257 of 257",
         &[0, 0x0A, 1, 1, 0, 1, 4, 4, 0, 1],
+        HeaderKind::Main,
         257,
-        true,
     )
 }
 
@@ -267,80 +253,92 @@ fn qcd_limits(rt: &HostRuntime) -> io::Result<()> {
 }
 
 fn qccs(rt: &HostRuntime) -> io::Result<()> {
-    qcc(rt, "of component 1", &[0, 6, 1, 0x40, 0x40, 0x48], 2, true)?;
-    qcc(rt, "length 3", &[0, 3, 1, 0x40, 0x40, 0x48], 2, true)?;
-    qcc(rt, "length 4", &[0, 4, 1, 0x40, 0x40, 0x48], 2, true)?;
+    qcc(
+        rt,
+        "of component 1",
+        &[0, 6, 1, 0x40, 0x40, 0x48],
+        HeaderKind::Main,
+        2,
+    )?;
+    qcc(
+        rt,
+        "length 3",
+        &[0, 3, 1, 0x40, 0x40, 0x48],
+        HeaderKind::Main,
+        2,
+    )?;
+    qcc(
+        rt,
+        "length 4",
+        &[0, 4, 1, 0x40, 0x40, 0x48],
+        HeaderKind::Main,
+        2,
+    )?;
     qcc(
         rt,
         "of component 2 of 2",
         &[0, 6, 2, 0x40, 0x40, 0x48],
+        HeaderKind::Main,
         2,
-        true,
     )?;
     qcc(
         rt,
         "of component 2 of 2, in a tile-part",
         &[0, 6, 2, 0x40, 0x40, 0x48],
+        HeaderKind::TilePart,
         2,
-        false,
     )?;
     qcc(
         rt,
         "of 257 components",
         &[0, 7, 1, 0, 0x40, 0x40, 0x48],
+        HeaderKind::Main,
         257,
-        true,
     )?;
     qcc(
         rt,
         "of 257 components, length 4",
         &[0, 4, 1, 0, 0x40, 0x40, 0x48],
+        HeaderKind::Main,
         257,
-        true,
     )?;
     qcc(
         rt,
         "of 257 components, length 5",
         &[0, 5, 1, 0, 0x40, 0x40, 0x48],
+        HeaderKind::Main,
         257,
-        true,
     )
 }
 
-fn cut_cod(rt: &HostRuntime) -> io::Result<()> {
+// The answer to each number of first bytes.
+fn cut<F: Fn(&HostRuntime, &[u8]) -> io::Result<()>>(
+    rt: &HostRuntime,
+    bytes: &[u8],
+    show: F,
+) -> io::Result<()>
+    requires { F.IsAlwaysCallable show }
+{
+    for count in 0..=bytes.len() {
+        print!(rt; "{count} bytes of ")?;
+        show(rt, &bytes[..count])?;
+    }
+    Ok(())
+}
+
+fn cut_segments(rt: &HostRuntime) -> io::Result<()> {
     let bytes = [0, 0x0F, 1, 0, 0, 1, 1, 2, 2, 2, 0, 1, 0x44, 0x55, 0x66];
-    for count in 0..16 {
-        print!(rt; "{count} bytes of ")?;
-        cod(rt, "with precincts", &bytes[0..count])?;
-    }
-    Ok(())
-}
-
-fn cut_coc(rt: &HostRuntime) -> io::Result<()> {
+    cut(rt, &bytes, |rt, part| cod(rt, "with precincts", part))?;
     let bytes = [0, 9, 1, 1, 1, 4, 4, 0, 1, 0x77, 0x88];
-    for count in 0..12 {
-        print!(rt; "{count} bytes of ")?;
-        coc(rt, "with precincts", &bytes[0..count], 3, true)?;
-    }
-    Ok(())
-}
-
-fn cut_qcd(rt: &HostRuntime) -> io::Result<()> {
+    cut(rt, &bytes, |rt, part| {
+        coc(rt, "with precincts", part, HeaderKind::Main, 3)
+    })?;
     let bytes = [0, 9, 0x42, 8, 1, 0x10, 2, 0x18, 3];
-    for count in 0..10 {
-        print!(rt; "{count} bytes of ")?;
-        qcd(rt, "expounded", &bytes[0..count])?;
-    }
-    Ok(())
-}
-
-fn cut_qcc(rt: &HostRuntime) -> io::Result<()> {
+    cut(rt, &bytes, |rt, part| qcd(rt, "expounded", part))?;
     let bytes = [0, 7, 1, 0, 0x40, 0x40, 0x48];
-    for count in 0..8 {
-        print!(rt; "{count} bytes of ")?;
-        qcc(rt, "of 257", &bytes[0..count], 257, true)?;
-    }
-    Ok(())
+    cut(rt, &bytes, |rt, part| {
+        qcc(rt, "of 257", part, HeaderKind::Main, 257)
+    })
 }
 
 fn main(rt: HostRuntime) -> io::Result<()> {
@@ -351,8 +349,5 @@ fn main(rt: HostRuntime) -> io::Result<()> {
     real_qcds(&rt)?;
     qcd_limits(&rt)?;
     qccs(&rt)?;
-    cut_cod(&rt)?;
-    cut_coc(&rt)?;
-    cut_qcd(&rt)?;
-    cut_qcc(&rt)
+    cut_segments(&rt)
 }

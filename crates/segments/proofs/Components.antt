@@ -1,17 +1,14 @@
 -- The component fields of SIZ: how far a loop that reads them has come, and that they are the bytes that they are read from.
-use Rattle.std.proofs.Common.{◌≡◌, ℕ, zero, suc, ◌+◌, ◌*◌, ◌<◌, ◌≤◌, Bool, true, false, ◌&&◌, ltb, leb, List, [], ◌∷◌, ◌++◌, length, get_or, Some, None, Option, sym, refl, ap, ◌∙◌, subst, ap₂, inl, inr, add-one, arith, length-append, drop-cons}
+use Rattle.std.proofs.Common.{◌≡◌, ℕ, zero, suc, ◌+◌, ◌*◌, ◌<◌, ◌≤◌, Bool, true, false, ◌&&◌, ltb, leb, List, [], ◌∷◌, ◌++◌, length, get_or, sym, refl, ap, ◌∙◌, ap₂, inl, inr, add-one, arith, length-append, drop-cons}
 use Rattle.std.proofs.lemmas.List.{get_or_append_left, get_or-append-add}
-use Rattle.std.proofs.lemmas.Bool.{cases_eq, le-leb, lt-ltb}
-use Rattle.reader.proofs.Parts.{part_at, part_first}
-use Rattle.segments.specs.declared.size_data.SizeData.{SizeData}
-use Rattle.segments.specs.declared.size_data.ComponentSizeInfo.{ComponentSizeInfo}
+use Rattle.std.proofs.lemmas.Bool.{cases_eq, le-leb}
+use Rattle.reader.proofs.Parts.{part_at}
 use Rattle.faults.specs.declared.segment.Cause.{Cause}
 use Rattle.reader.specs.Bytes.{byte_at, part}
-use Rattle.layouts.specs.Layouts.{Reading, read, failed, reading, meaning, field, fields, one, any, values_of}
-use Rattle.segments.specs.Siz.{component_table, components_layout, precise, precision_of, sampled, component_at, MadeComponent, Says, Hands, HandsAt}
+use Rattle.layouts.specs.Layouts.{read, failed, reading, meaning, field, fields, one, any}
+use Rattle.segments.specs.Siz.{component_table, components_layout, precise, precision_of, sampled, component_at, MadeComponent}
 use Rattle.layouts.proofs.Tables.{table_read, table_inside, first_inside, first_admitted}
-use Rattle.layouts.proofs.Times.{Run, followed_read, run_none, run_more, run_failed, run_all}
-use Rattle.layouts.proofs.Exits.{is_read}
+use Rattle.layouts.proofs.Times.{Run, followed_read, run_none, run_more, run_failed}
 
 part_more : (n : ℕ) (d : List ℕ) (p : ℕ) → p < length d → part (suc n) d p ≡ byte_at d p ∷ part n d (p + 1)
 part_more n d p h = rw (add-one, drop-cons d p 0) refl
@@ -98,15 +95,6 @@ pub listed_failed :
     → meaning (components_layout n) d p0 ≡ failed e q
 listed_failed n d p0 k p s e q r lt f = run_failed (fields component_table) n d p0 k p e q r.run lt f
 
-pub listed_all :
-    (n : ℕ) (d : List ℕ) (p0 k p : ℕ) (s : Bool) → Listed n d p0 k p s → n ≤ k → k ≤ n
-    → (meaning (components_layout n) d p0 ≡ read (values_of (meaning (components_layout n) d p0)) p)
-    × (s ≡ sampled n (values_of (meaning (components_layout n) d p0)))
-listed_all n d p0 k p s r le ge =
-    let e = run_all (fields component_table) n d p0 k p r.run le in
-    let m : k ≡ n = omega arith in
-    (is_read _ _ _ e, r.flag ∙ ap (λ (j : ℕ). sampled j r.run.vs) m ∙ ap (λ (R : Reading). sampled n (values_of R)) (sym e))
-
 -- a component that is read is there, with a precision that is admitted
 pub components_precise :
     (n : ℕ) (d : List ℕ) (p : ℕ) (vs : List ℕ) (q : ℕ) → meaning (components_layout n) d p ≡ read vs q → (k : ℕ) → k < n
@@ -159,33 +147,3 @@ component_there n d p vs q e s k h =
     let u : ltb 0 (byte_at d (p + 3 * k + 1)) ≡ true = rw x at t.0 in
     let v : ltb 0 (byte_at d (p + 3 * k + 2)) ≡ true = rw y at t.1 in
     rw (a, r.1, u, v) refl
-
--- component k, from its three bytes
-pub component_handed :
-    (d : List ℕ) (s : SizeData) (k p : ℕ) (bs : List ℕ) (r : Option ComponentSizeInfo) → k < s.csiz → p ≡ s.components + 3 * k
-    → p + 3 ≤ length d → bs ≡ part 3 d p → Says (get_or bs 0 0) (get_or bs 1 0) (get_or bs 2 0) r → Hands d s k r
-component_handed d s k p bs r lt e h f says =
-    subst (λ (x : ℕ). HandsAt d k s.csiz x r) e
-    (go r
-    (subst (λ (n : ℕ). Says n (byte_at d (p + 1)) (byte_at d (p + 2)) r) first
-    (subst (λ (n : ℕ). Says (get_or bs 0 0) n (byte_at d (p + 2)) r) second
-    (subst (λ (n : ℕ). Says (get_or bs 0 0) (get_or bs 1 0) n r) third says))))
-  where
-    first : get_or bs 0 0 ≡ byte_at d p
-    first = part_first d bs p 3 (omega arith) f
-
-    second : get_or bs 1 0 ≡ byte_at d (p + 1)
-    second = part_at d bs p 3 1 (omega arith) f
-
-    third : get_or bs 2 0 ≡ byte_at d (p + 2)
-    third = part_at d bs p 3 2 (omega arith) f
-
-    there : leb (p + 3) (length d) ≡ true
-    there = le-leb (p + 3) (length d) h
-
-    below : ltb k s.csiz ≡ true
-    below = lt-ltb k s.csiz lt
-
-    go : (r : Option ComponentSizeInfo) → Says (byte_at d p) (byte_at d (p + 1)) (byte_at d (p + 2)) r → HandsAt d k s.csiz p r
-    go None y = rw (below, there) y
-    go (Some c) y = (lt, rw there y.0, y.1, y.2, y.3)

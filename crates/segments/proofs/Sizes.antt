@@ -2,7 +2,7 @@
 use Rattle.std.proofs.Common.{◌≡◌, ℕ, ◌+◌, ◌*◌, Bool, true, false, List, [], ◌++◌, length, get_or, drop, Some, None, Ok, Err, Option, Result, sym, refl, ap, ◌∙◌, subst, ap₂, append_assoc, arith, length-append}
 use Rattle.std.proofs.lemmas.List.{get_or_append_left, get_or-append_right}
 use Rattle.std.proofs.lemmas.List.Prefix.{front_rest}
-use Rattle.layouts.specs.Layouts.{read, reading, meaning, values_of}
+use Rattle.layouts.specs.Layouts.{read, reading, meaning}
 use Rattle.std.proofs.lemmas.Bool.Decides.{nat_tests}
 use Rattle.faults.specs.declared.decode.DecodeError.{DecodeError}
 use Rattle.reader.specs.Bytes.{marker_at, part}
@@ -14,13 +14,6 @@ use Rattle.segments.specs.declared.size_data.SizeData.{SizeData}
 use Rattle.segments.proofs.Components.{components_read, component_there}
 use Rattle.layouts.proofs.Tables.{table_read}
 use Rattle.layouts.proofs.Times.{followed_read}
-
-sections_read :
-    (d : List ℕ) (p q r s n : ℕ) (is ts cs : List ℕ) → reading image_table d p [] ≡ read is q → reading tile_table d q [] ≡ read ts r
-    → n ≡ get_or ts 4 0 → meaning (components_layout n) d r ≡ read cs s → meaning siz_layout d p ≡ read (is ++ (ts ++ cs)) s
-sections_read d p q r s n is ts cs a b e f =
-    let g : meaning (components_layout (get_or ts 4 0)) d r ≡ read cs s = subst (λ (m : ℕ). meaning (components_layout m) d r ≡ read cs s) e f in
-    rw a (rw b (rw g refl))
 
 -- the place where the component fields begin
 pub components_place :
@@ -36,16 +29,6 @@ behind_both : (is ts cs : List ℕ) → length is ≡ 6 → length ts ≡ 5 → 
 behind_both is ts cs six five =
     let l : length (is ++ ts) ≡ 11 = omega (arith, length-append is ts) in
     subst (λ (n : ℕ). drop n (is ++ (ts ++ cs)) ≡ cs) l (front_rest (is ++ (ts ++ cs)) (is ++ ts) cs (sym (append_assoc is ts cs)))
-
-pub components_sampled :
-    (d : List ℕ) (p q r s n : ℕ) (is ts cs : List ℕ) (b : Bool) → reading image_table d p [] ≡ read is q → reading tile_table d q [] ≡ read ts r
-    → length is ≡ 6 → length ts ≡ 5 → n ≡ get_or ts 4 0 → meaning (components_layout n) d r ≡ read cs s → b ≡ sampled n cs
-    → b ≡ sampled (siz_of (values_of (meaning siz_layout d p))).csiz (siz_of (values_of (meaning siz_layout d p))).components
-components_sampled d p q r s n is ts cs b a e six five m f g =
-    let all : values_of (meaning siz_layout d p) ≡ is ++ (ts ++ cs) = ap values_of (sections_read d p q r s n is ts cs a e m f) in
-    g
-    ∙ ap₂ sampled (m ∙ sym (csiz_at is ts cs six five)) (sym (behind_both is ts cs six five))
-    ∙ ap (λ (vs : List ℕ). sampled (get_or vs 10 0) (drop 11 vs)) (sym all)
 
 -- a segment that is read, by its three sections
 pub record Sections (d : List ℕ) (p : ℕ) (vs : List ℕ) (q : ℕ) : Type 0 where

@@ -1,5 +1,5 @@
 -- The SIZ marker segment (T.800 A.5.1, Table A.9).
-use Rattle.std.specs.Prelude.{◌≡◌, ℕ, zero, suc, ◌+◌, ◌*◌, ◌%◌, ◌^◌, ◌<◌, Bool, true, false, cond, ◌&&◌, ◌||◌, List, [], ◌∷◌, length, drop, Some, None, Ok, Err, Option, Result, ◌==◌, nat_le, nat_lt, slice_index}
+use Rattle.std.specs.Prelude.{◌≡◌, ℕ, zero, suc, ◌+◌, ◌*◌, ◌%◌, ◌^◌, ◌<◌, Bool, true, false, if◌then◌else◌, ◌&&◌, ◌||◌, List, [], ◌∷◌, length, drop, Some, None, Ok, Err, Option, Result, ◌==◌, nat_le, nat_lt, slice_index}
 use Rattle.faults.specs.declared.decode.DecodeError.{DecodeError}
 use Rattle.faults.specs.declared.decode.DecodeError.TheVariants.{Marker, Tile, Validation}
 use Rattle.faults.specs.declared.decode.MarkerError.TheVariants.{Invalid, Expected, ParseFailure}
@@ -10,6 +10,7 @@ use Rattle.reader.specs.Reads.{bytes_of}
 use Rattle.reader.specs.declared.reader.BitReader.{BitReader}
 use Rattle.rect.specs.Spans.{reaching}
 use Rattle.layouts.specs.Layouts.{Layout, Reading, read, failed, meaning, field, fields, behind, times, one, two, four, any, at_least, Field}
+use Rattle.segments.specs.declared.size_data.Axis.{Axis}
 use Rattle.segments.specs.declared.size_data.ImageFields.{ImageFields}
 use Rattle.segments.specs.declared.size_data.TileFields.{TileFields}
 use Rattle.segments.specs.declared.fields.SizeFields.{SizeFields}
@@ -125,6 +126,13 @@ fields_grid f =
       ytosiz = f.tiles.ytosiz;
     }
 
+-- its two directions
+abbrev pub x_axis : Grid → Axis
+x_axis g = record { size = g.xsiz; offset = g.xosiz; side = g.xtsiz; origin = g.xtosiz }
+
+abbrev pub y_axis : Grid → Axis
+y_axis g = record { size = g.ysiz; offset = g.yosiz; side = g.ytsiz; origin = g.ytosiz }
+
 -- what a reader that stands behind the marker makes of the values
 pub record MadeSize (b : BitReader) (f : SizeFields) (vs : List ℕ) : Type 0 where
   pub grid : fields_grid f ≡ grid_of vs
@@ -148,11 +156,10 @@ tiles_of g = reaching g.xtosiz g.xtsiz g.xsiz * reaching g.ytosiz g.ytsiz g.ysiz
 -- what is tested of the whole segment, in this order; `at` is the place of the marker, `ok` whether no component has a step 0
 abbrev pub refusal : ℕ → Grid → Bool → Option DecodeError
 refusal at g ok =
-    cond (misdimensioned g.xsiz g.xtsiz g.xtosiz || misdimensioned g.ysiz g.ytsiz g.ytosiz)
-    (Some (Validation (InvalidDimensions at)))
-    (cond (misplaced g.xosiz g.xtsiz g.xtosiz || misplaced g.yosiz g.ytsiz g.ytosiz)
-    (Some (Tile (InvalidOffsets at)))
-    (cond ok (cond (nat_lt (tiles_of g) (2 ^ 32)) None (Some (Validation (ImageTooLarge at)))) (Some (Validation (InvalidComponentMetadata at)))))
+    if misdimensioned g.xsiz g.xtsiz g.xtosiz || misdimensioned g.ysiz g.ytsiz g.ytosiz then Some (Validation (InvalidDimensions at))
+    else if misplaced g.xosiz g.xtsiz g.xtosiz || misplaced g.yosiz g.ytsiz g.ytosiz then Some (Tile (InvalidOffsets at))
+    else if ok then (if nat_lt (tiles_of g) (2 ^ 32) then None else Some (Validation (ImageTooLarge at)))
+    else Some (Validation (InvalidComponentMetadata at))
 
 -- what stands at a place: an accepted segment, or why not; and the place after
 pub data Outcome : Type 0 where
@@ -170,7 +177,7 @@ judged at (failed e q) = refused (Marker (ParseFailure 81 e)) q
 -- a marker must be there, and be SIZ, 0xFF51
 abbrev pub marked : ℕ → Option ℕ → Outcome → Outcome
 marked at None o = refused (Marker (Invalid at)) at
-marked at (Some m) o = cond (m == 81) o (refused (Marker (Expected 81 at)) (at + 2))
+marked at (Some m) o = if m == 81 then o else refused (Marker (Expected 81 at)) (at + 2)
 
 abbrev pub siz_outcome : List ℕ → ℕ → Outcome
 siz_outcome d at = marked at (marker_at d at) (judged at (meaning siz_layout d (at + 2)))

@@ -1,8 +1,8 @@
-ghost use Rattle.layouts.specs.Layouts.{Answers, fields, here};
-ghost use Rattle.segments.specs.Siz.{MadeComponent, MadeComponents, MadeImage, MadeSize, MadeTiles, component_table, components_layout, image_table, siz_layout, tile_table};
+ghost use Rattle.layouts.specs.Layouts.{Parses, fields};
+ghost use Rattle.segments.specs.Siz.{MadeComponent, MadeComponents, MadeImage, MadeSize, MadeTiles, component_table, components_layout, image_table, x_axis, y_axis, fields_grid, siz_layout, tile_table};
 ghost use Rattle.std.specs.Prelude.{◌≡◌};
 
-use crate::size_data::{ImageFields, TileFields};
+use crate::size_data::{Axis, ImageFields, TileFields};
 use faults::segment::SegmentFault;
 use layouts::markers::SIZ;
 use reader::reader::BitReader;
@@ -11,8 +11,7 @@ use reader::reader::BitReader;
 pub(crate) const MAX_PRECISION: u8 = 31;
 
 fn image_fields(reader: &mut BitReader<'_>) -> Result<ImageFields, SegmentFault<SIZ>>
-    ensures answers { Answers (here (fields image_table) reader.old) MadeImage reader.new result }
-    ensures same { reader.new.«data» ≡ reader.old.«data» }
+    ensures { Parses (fields image_table) MadeImage reader.old reader.new result }
 {
     let _lsiz = reader.read_u16()?;
     let _rsiz = reader.read_u16()?;
@@ -37,8 +36,7 @@ fn image_fields(reader: &mut BitReader<'_>) -> Result<ImageFields, SegmentFault<
 }
 
 fn tile_fields(reader: &mut BitReader<'_>) -> Result<TileFields, SegmentFault<SIZ>>
-    ensures answers { Answers (here (fields tile_table) reader.old) MadeTiles reader.new result }
-    ensures same { reader.new.«data» ≡ reader.old.«data» }
+    ensures { Parses (fields tile_table) MadeTiles reader.old reader.new result }
 {
     let xtsiz = reader.read_u32()?;
     let ytsiz = reader.read_u32()?;
@@ -60,8 +58,7 @@ fn tile_fields(reader: &mut BitReader<'_>) -> Result<TileFields, SegmentFault<SI
 
 // One component's fields: whether its steps are not 0.
 fn component_fields(reader: &mut BitReader<'_>) -> Result<bool, SegmentFault<SIZ>>
-    ensures answers { Answers (here (fields component_table) reader.old) MadeComponent reader.new result }
-    ensures same { reader.new.«data» ≡ reader.old.«data» }
+    ensures { Parses (fields component_table) MadeComponent reader.old reader.new result }
 {
     let at = reader.offset();
     let ssiz = reader.read_byte()?;
@@ -75,11 +72,10 @@ fn component_fields(reader: &mut BitReader<'_>) -> Result<bool, SegmentFault<SIZ
 
 // All components' fields: whether no step is 0.
 fn component_list(reader: &mut BitReader<'_>, count: u16) -> Result<bool, SegmentFault<SIZ>>
-    ensures answers { Answers (here (components_layout count) reader.old) (MadeComponents count) reader.new result }
-    ensures same { reader.new.«data» ≡ reader.old.«data» }
+    ensures { Parses (components_layout count) (MadeComponents count) reader.old reader.new result }
 {
     let mut sampled = true;
-    for k in 0..count {
+    for _k in 0..count {
         sampled &= component_fields(reader)?;
     }
     Ok(sampled)
@@ -94,9 +90,32 @@ pub(crate) struct SizeFields {
     pub(crate) sampled: bool,
 }
 
+impl SizeFields {
+    pub(crate) fn x(&self) -> Axis
+        ensures { result ≡ x_axis (fields_grid self.now) }
+    {
+        Axis {
+            size: self.image.xsiz,
+            offset: self.image.xosiz,
+            side: self.tiles.xtsiz,
+            origin: self.tiles.xtosiz,
+        }
+    }
+
+    pub(crate) fn y(&self) -> Axis
+        ensures { result ≡ y_axis (fields_grid self.now) }
+    {
+        Axis {
+            size: self.image.ysiz,
+            offset: self.image.yosiz,
+            side: self.tiles.ytsiz,
+            origin: self.tiles.ytosiz,
+        }
+    }
+}
+
 pub(crate) fn size_fields(reader: &mut BitReader<'_>) -> Result<SizeFields, SegmentFault<SIZ>>
-    ensures answers { Answers (here siz_layout reader.old) (MadeSize reader.old) reader.new result }
-    ensures same { reader.new.«data» ≡ reader.old.«data» }
+    ensures { Parses siz_layout (MadeSize reader.old) reader.old reader.new result }
 {
     let image = image_fields(reader)?;
     let tiles = tile_fields(reader)?;

@@ -1,59 +1,57 @@
 ghost use Rattle.std.specs.Prelude.{◌≡◌, ◌<◌};
+ghost use Rattle.reader.specs.Reads.{SameData};
 ghost use Rattle.rect.specs.Spans.{reaching};
-ghost use Rattle.segments.specs.Siz.{Hands, ReadsSize, Says, Weighs, grid_in, misdimensioned, misplaced, tiles_of};
+ghost use Rattle.segments.specs.Siz.{Hands, ReadsSize, Says, Weighs, x_axis, y_axis, grid_in, misdimensioned, misplaced, tiles_of};
 
 use crate::fields::{MAX_PRECISION, SizeFields, size_fields};
-use crate::size_data::{ComponentSizeInfo, SizeData};
+use crate::size_data::{Axis, ComponentSizeInfo, SizeData};
 use faults::decode::{DecodeError, MarkerError, TileError, ValidationError};
 use layouts::markers::SIZ;
 use reader::reader::BitReader;
 
-// Whether a tile side is 0, or a tile offset not below the grid's side.
-fn dimensions_refused(size: u32, side: u32, origin: u32) -> bool
-    ensures { result ≡ misdimensioned size side origin }
-{
-    side == 0 || origin >= size
-}
+impl Axis {
+    // Whether the tile side is 0, or the tile offset not below the grid's side.
+    fn is_misdimensioned(&self) -> bool
+        ensures { result ≡ misdimensioned self.now.size self.now.side self.now.origin }
+    {
+        self.side == 0 || self.origin >= self.size
+    }
 
-// Whether the first tile does not hold the image's first point, or ends at 2^32 or behind it.
-fn offsets_refused(offset: u32, side: u32, origin: u32) -> bool
-    ensures { result ≡ misplaced offset side origin }
-{
-    let end = u64::from(origin) + u64::from(side);
-    origin > offset || end >= 1 << 32 || end <= u64::from(offset)
-}
+    // Whether the first tile does not hold the image's first point, or ends at 2^32 or behind it.
+    fn is_misplaced(&self) -> bool
+        ensures { result ≡ misplaced self.now.offset self.now.side self.now.origin }
+    {
+        let end = u64::from(self.origin) + u64::from(self.side);
+        self.origin > self.offset || end >= 1 << 32 || end <= u64::from(self.offset)
+    }
 
-// How many tiles there are in one direction.
-fn tile_count(size: u32, side: u32, origin: u32) -> u32
-    requires { 0 < side }
-    ensures { result ≡ reaching origin side size }
-{
-    size.saturating_sub(origin).div_ceil(side)
+    // How many tiles there are.
+    fn num_tiles(&self) -> u32
+        requires { 0 < self.now.side }
+        ensures { result ≡ reaching self.now.origin self.now.side self.now.size }
+    {
+        self.size.saturating_sub(self.origin).div_ceil(self.side)
+    }
 }
 
 fn accept(fields: SizeFields, place: usize) -> Result<SizeData, DecodeError>
     ensures { Weighs place fields result }
 {
-    let image = fields.image;
-    let tiles = fields.tiles;
-    if dimensions_refused(image.xsiz, tiles.xtsiz, tiles.xtosiz)
-        || dimensions_refused(image.ysiz, tiles.ytsiz, tiles.ytosiz)
-    {
-        return Err(DecodeError::Validation(ValidationError::InvalidDimensions { place }));
+    let x = fields.x();
+    let y = fields.y();
+    if x.is_misdimensioned() || y.is_misdimensioned() {
+        return Err(ValidationError::InvalidDimensions { place }.into());
     }
-    if offsets_refused(image.xosiz, tiles.xtsiz, tiles.xtosiz)
-        || offsets_refused(image.yosiz, tiles.ytsiz, tiles.ytosiz)
-    {
-        return Err(DecodeError::Tile(TileError::InvalidOffsets { place }));
+    if x.is_misplaced() || y.is_misplaced() {
+        return Err(TileError::InvalidOffsets { place }.into());
     }
     if !fields.sampled {
-        return Err(DecodeError::Validation(ValidationError::InvalidComponentMetadata { place }));
+        return Err(ValidationError::InvalidComponentMetadata { place }.into());
     }
-    let columns = tile_count(image.xsiz, tiles.xtsiz, tiles.xtosiz);
-    let rows = tile_count(image.ysiz, tiles.ytsiz, tiles.ytosiz);
-    if u64::from(columns) * u64::from(rows) >= 1 << 32 {
-        return Err(DecodeError::Validation(ValidationError::ImageTooLarge { place }));
+    if u64::from(x.num_tiles()) * u64::from(y.num_tiles()) >= 1 << 32 {
+        return Err(ValidationError::ImageTooLarge { place }.into());
     }
+    let SizeFields { image, tiles, .. } = fields;
     Ok(SizeData {
         xsiz: image.xsiz,
         ysiz: image.ysiz,
@@ -71,11 +69,11 @@ fn accept(fields: SizeFields, place: usize) -> Result<SizeData, DecodeError>
 /// Reads the SIZ marker where the reader stands, and its segment.
 pub fn size_marker(reader: &mut BitReader<'_>) -> Result<SizeData, DecodeError>
     ensures reads { ReadsSize reader.old reader.new result }
-    ensures same { reader.new.«data» ≡ reader.old.«data» }
+    ensures same { SameData reader.old reader.new }
 {
     let place = reader.offset();
     if reader.read_marker()? != SIZ {
-        return Err(DecodeError::Marker(MarkerError::Expected { code: SIZ, place }));
+        return Err(MarkerError::Expected { code: SIZ, place }.into());
     }
     let fields = size_fields(reader)?;
     accept(fields, place)
@@ -96,13 +94,33 @@ fn component_info(ssiz: u8, xrsiz: u8, yrsiz: u8) -> Option<ComponentSizeInfo>
 }
 
 impl SizeData {
+    fn x(&self) -> Axis
+        ensures { result ≡ x_axis (grid_in self.now) }
+    {
+        Axis {
+            size: self.xsiz,
+            offset: self.xosiz,
+            side: self.xtsiz,
+            origin: self.xtosiz,
+        }
+    }
+
+    fn y(&self) -> Axis
+        ensures { result ≡ y_axis (grid_in self.now) }
+    {
+        Axis {
+            size: self.ysiz,
+            offset: self.yosiz,
+            side: self.ytsiz,
+            origin: self.ytosiz,
+        }
+    }
+
     /// The number of tiles.
     pub fn num_tiles(&self) -> u32
         ensures { result ≡ tiles_of (grid_in self.now) }
     {
-        let columns = tile_count(self.xsiz, self.xtsiz, self.xtosiz);
-        let rows = tile_count(self.ysiz, self.ytsiz, self.ytosiz);
-        columns * rows
+        self.x().num_tiles() * self.y().num_tiles()
     }
 
     /// Component `index`, from the codestream that these sizes were read from.
@@ -113,7 +131,9 @@ impl SizeData {
             return None;
         }
         let place = self.components.checked_add(3 * usize::from(index))?;
-        let bytes = BitReader::new(codestream, place).peek_bytes(3)?;
-        component_info(bytes[0], bytes[1], bytes[2])
+        match codestream.get(place..)? {
+            [ssiz, xrsiz, yrsiz, ..] => component_info(*ssiz, *xrsiz, *yrsiz),
+            _ => None,
+        }
     }
 }

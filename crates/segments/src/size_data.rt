@@ -1,6 +1,16 @@
 ghost use Rattle.std.specs.Prelude.{◌+◌, ◌*◌, ◌^◌, ◌<◌, ◌≤◌};
 ghost use Rattle.rect.specs.Spans.{reaching};
 
+/// One direction of the reference grid, as SIZ has it: the image reaches from `offset` to `size`, the tiles begin at `origin` and are `side`
+/// wide. Not geometry's `TileAxis`, whose ranges these numbers are only tested for.
+#[derive(Clone, Copy)]
+pub(crate) struct Axis {
+    pub(crate) size: u32,
+    pub(crate) offset: u32,
+    pub(crate) side: u32,
+    pub(crate) origin: u32,
+}
+
 /// The image area on the reference grid, as SIZ has it.
 #[derive(Clone, Copy)]
 pub(crate) struct ImageFields {

@@ -13,11 +13,11 @@ returns c =
     let d : m.«data».now ≡ b.«data».now = ap (λ (s : Bor (List ℕ)). s.now) f.same in
     let at : m.place ≡ b.place + 2 = f.reads.1 in
     let h : meaning siz_layout b.«data».now (b.place + 2) ≡ read (values_of (here siz_layout m)) c.size_fields.new.reader.place =
-    ap₂ (λ (s : List ℕ) (p : ℕ). meaning siz_layout s p) (sym d) (sym at) ∙ g.answers.0 in
+    ap₂ (λ (s : List ℕ) (p : ℕ). meaning siz_layout s p) (sym d) (sym at) ∙ g.0.0 in
     record {
       reads =
           size_judged b m c.size_fields.new.reader c.in_ok-fields.fields (values_of (here siz_layout m)) c.accept.result
-          (f.reads.0 ∙ ap Some c.if-branch-ne-SIZ.false) at h g.answers.1
+          (f.reads.0 ∙ ap Some c.if-branch-ne-SIZ.false) at h g.0.1
           (subst (λ (n : ℕ). Weighs n c.in_ok-fields.fields c.accept.result) c.offset-place.ensures c.accept.ensures);
       same = search rules;
     }
