@@ -1,3 +1,3 @@
 pub mod Arrangement
-pub mod Shift
+pub mod Placement
 pub mod Progress

@@ -1,10 +1,10 @@
-use Rattle.std.specs.Prelude.{◌≡◌, ℕ, ◌+◌, ◌<◌, ◌≤◌, Bool, false, cond, ◌||◌, List, [], ◌∷◌, ◌++◌, length, take, drop, Some, None, Ok, Err, Option, Result, ◌==◌, nat_le, slice_index_or}
+use Rattle.std.specs.Prelude.{◌≡◌, ℕ, ◌+◌, ◌<◌, ◌≤◌, Bool, cond, ◌||◌, List, [], ◌∷◌, ◌++◌, length, take, drop, filter, fold, Some, None, Ok, Err, Option, Result, ◌==◌, nat_le, slice_index_or}
+use Rattle.std.specs.List.{list_any}
 use Rattle.std.specs.List.Sorted.{IsNonDecreasingBy, IsPermutation}
 
 -- Whether some record has an index that is not greater than n.
 abbrev pub some_up_to : {X : Type 0} → (X → ℕ) → ℕ → List X → Bool
-some_up_to key n [] = false
-some_up_to key n (y ∷ ys) = nat_le (key y) n || some_up_to key n ys
+some_up_to key n = list_any (λ y. nat_le (key y) n)
 
 -- The records with x put behind all whose index is not greater than x's, and no further.
 abbrev pub placed : {X : Type 0} → (X → ℕ) → X → List X → List X
@@ -13,13 +13,11 @@ placed key x (y ∷ ys) = cond (nat_le (key y) (key x) || some_up_to key (key x)
 
 -- The records whose index is n, in their order.
 abbrev pub with_index : {X : Type 0} → (X → ℕ) → ℕ → List X → List X
-with_index key n [] = []
-with_index key n (y ∷ ys) = cond (key y == n) (y ∷ with_index key n ys) (with_index key n ys)
+with_index key n = filter (λ y. key y == n)
 
 -- The records put in one after another, each behind all whose index is not greater.
 abbrev pub placed_all : {X : Type 0} → (X → ℕ) → List X → List X → List X
-placed_all key [] rows = rows
-placed_all key (x ∷ xs) rows = placed_all key xs (placed key x rows)
+placed_all key xs rows = fold (λ ys x. placed key x ys) rows xs
 
 -- The ordered arrangement of what arrived: in order of the index, those of one index in the order of arrival, nothing lost or added.
 pub record Arranged (X : Type 0) (key : X → ℕ) (arrivals rows : List X) : Type 0 where
@@ -32,6 +30,12 @@ pub record ArrangementLaw (X : Type 0) (key : X → ℕ) : Type 0 where
   pub one : (arrivals : List X) → Arranged X key arrivals (placed_all key arrivals [])
   pub no_other : (arrivals rows : List X) → Arranged X key arrivals rows → rows ≡ placed_all key arrivals []
   pub next : (arrivals rows : List X) (x : X) → Arranged X key arrivals rows → Arranged X key (arrivals ++ x ∷ []) (placed key x rows)
+
+-- The place behind the last row whose index is not greater than x's.
+pub record IsPlace {X : Type 0} (key : X → ℕ) (x : X) (rows : List X) (at : ℕ) : Type 0 where
+  pub within : at ≤ length rows
+  pub behind : (k : ℕ) (d : X) → k + 1 ≡ at → key (slice_index_or rows k d) ≤ key x
+  pub greater : (k : ℕ) (d : X) → at ≤ k → k < length rows → key x < key (slice_index_or rows k d)
 
 -- One record put into rows of which the first `len` are filled.
 pub record Inserted (X : Type 0) (key : X → ℕ) (x : X) (before : List X) (len : ℕ) (after : List X) (count : ℕ) : Type 0 where

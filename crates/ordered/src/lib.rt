@@ -3,6 +3,9 @@
 ghost use Rattle.std.specs.Prelude.{◌≡◌, ℕ};
 ghost use Rattle.ordered.specs.Order.{Insertion, Filling, count_after, ArrangementLaw};
 
+use std::error::Error;
+use std::fmt;
+
 mod list;
 
 pub use list::OrderedList;
@@ -17,25 +20,33 @@ pub trait Sequenced {
 }
 
 /// Too few rows are free.
-#[derive(Clone, Copy)]
+#[derive(Clone, Copy, Debug, PartialEq, Eq)]
 pub struct Full;
 
-/// Puts the record behind all of the first `len` rows whose index is not greater, and answers the new count.
+impl fmt::Display for Full {
+    fn fmt<W: fmt::Write>(&self, f: &mut fmt::Formatter<W>) -> fmt::Result {
+        f.write_str("too few rows are free")
+    }
+}
+
+impl Error for Full {}
+
+/// Puts the arrival behind all of the first `len` rows whose index is not greater, and answers the new count.
 pub fn insert_ordered<T: Sequenced + Copy>(
     rows: &mut [T],
     len: usize,
-    record: T,
+    arrival: T,
 ) -> Result<usize, Full>
-    ensures { Insertion T.Sequenced.sequence «record» rows.old len rows.new (count_after len result) result }
+    ensures { Insertion T.sequence arrival rows.old len rows.new (count_after len result) result }
 {
     let mut list = OrderedList::resume(rows, len);
-    list.insert(record)?;
+    list.insert(arrival)?;
     Ok(list.len())
 }
 
 /// Puts the ordered arrangement of the records into the first rows, and answers how many there are.
 pub fn fill_ordered<T: Sequenced + Copy>(rows: &mut [T], records: &[T]) -> Result<usize, Full>
-    ensures { Filling T.Sequenced.sequence records.now rows.old rows.new result }
+    ensures { Filling T.sequence records.now rows.old rows.new result }
 {
     let mut list = OrderedList::new(rows);
     list.insert_all(records)?;
@@ -43,8 +54,6 @@ pub fn fill_ordered<T: Sequenced + Copy>(rows: &mut [T], records: &[T]) -> Resul
 }
 
 /// Each list of arrivals has exactly one ordered arrangement.
-pub fn arrangement_law<T: Sequenced>() -> u8
-    ensures { ArrangementLaw T T.Sequenced.sequence }
-{
-    0
-}
+pub fn arrangement_law<T: Sequenced>()
+    ensures { ArrangementLaw T T.sequence }
+{}

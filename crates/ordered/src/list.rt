@@ -1,14 +1,15 @@
-ghost use Rattle.std.specs.Prelude.{◌≡◌, ◌+◌, ◌-◌, ◌<◌, ◌≤◌, min, length, ◌==◌, nat_le};
-ghost use Rattle.ordered.specs.Order.{Inserted, Insertion, Insertions, RowAt};
+ghost use Rattle.std.specs.Prelude.{◌≡◌, ◌-◌, ◌≤◌, min, length, take, ◌==◌};
+ghost use Rattle.ordered.specs.Order.{IsPlace, Insertion, Insertions, RowAt};
 
 use crate::{Full, Sequenced};
 
 /// A list kept in order of the sequence index in lent rows, of which the first `len` are filled.
+// The clauses `lent` say that the rows are still the lent ones, so that their owner knows what they hold when the list is gone.
 #[derive(Drop)]
 pub struct OrderedList<'a, T> {
     rows: &'a mut [T],
     len: usize,
-    ghost ok: { len ≤ length rows.now },
+    ghost within: { len ≤ length rows.now },
 }
 
 impl<'a, T: Sequenced + Copy> OrderedList<'a, T> {
@@ -22,6 +23,7 @@ impl<'a, T: Sequenced + Copy> OrderedList<'a, T> {
     }
 
     /// Takes up rows of which the first `len` are filled; all of them, where `len` is more than there are.
+    // No `Option`: behind a match on one, a proof knows nothing of what the rows hold afterwards.
     pub fn resume(rows: &'a mut [T], len: usize) -> OrderedList<'a, T>
         ensures counted { result.len ≡ min len (length rows.old) }
         ensures same { result.rows.now ≡ rows.old }
@@ -56,45 +58,37 @@ impl<'a, T: Sequenced + Copy> OrderedList<'a, T> {
     pub fn get(&self, k: usize) -> Option<T>
         ensures { RowAt self.now.rows.now self.now.len k result }
     {
-        let rows = &*self.rows;
-        if k < self.len { Some(rows[k]) } else { None }
+        self.rows[..self.len].get(k).copied()
     }
 
-    /// Puts the record behind all whose index is not greater.
-    pub fn insert(&mut self, record: T) -> Result<(), Full>
-        ensures result { Insertion T.Sequenced.sequence «record» self.old.rows.now self.old.len self.new.rows.now self.new.len result }
+    /// Puts the arrival behind all rows whose index is not greater.
+    pub fn insert(&mut self, arrival: T) -> Result<(), Full>
+        ensures inserted { Insertion T.sequence arrival self.old.rows.now self.old.len self.new.rows.now self.new.len result }
         ensures lent { self.new.rows.ghost_name ≡ self.old.rows.ghost_name }
     {
         if self.room() == 0 {
             return Err(Full);
         }
-        self.place(record);
+        let at = self.place_of(&arrival);
+        self.rows.copy_within(at..self.len, at + 1);
+        self.rows[at] = arrival;
         self.len += 1;
         Ok(())
     }
 
-    // Moves the greater rows up by one, from the last down, and writes the record below them; the count is left to the caller.
-    fn place(&mut self, record: T)
-        requires { self.old.len < length self.old.rows.now }
-        ensures result { Inserted T T.Sequenced.sequence «record» self.old.rows.now self.old.len self.new.rows.now (self.old.len + 1) }
-        ensures counted { self.new.len ≡ self.old.len }
-        ensures lent { self.new.rows.ghost_name ≡ self.old.rows.ghost_name }
+    // The place behind the last row whose index is not greater.
+    fn place_of(&self, arrival: &T) -> usize
+        ensures { IsPlace T.sequence arrival.now (take self.now.len self.now.rows.now) result }
     {
-        let mut at = self.len;
-        while at > 0 {
-            let below = self.rows[at - 1];
-            if up_to(below, record) {
-                break;
-            }
-            self.rows[at] = below;
-            at -= 1;
-        }
-        self.rows[at] = record;
+        self.rows[..self.len]
+            .iter()
+            .rposition(|row| row.sequence_idx() <= arrival.sequence_idx())
+            .map_or(0, |k| k + 1)
     }
 
     /// Puts the records in, one after another; none of them where not all have a row.
     pub fn insert_all(&mut self, records: &[T]) -> Result<(), Full>
-        ensures result { Insertions T.Sequenced.sequence records.now self.old.rows.now self.old.len self.new.rows.now self.new.len result }
+        ensures inserted { Insertions T.sequence records.now self.old.rows.now self.old.len self.new.rows.now self.new.len result }
         ensures lent { self.new.rows.ghost_name ≡ self.old.rows.ghost_name }
     {
         if records.len() > self.room() {
@@ -105,11 +99,4 @@ impl<'a, T: Sequenced + Copy> OrderedList<'a, T> {
         }
         Ok(())
     }
-}
-
-// Whether the index of `a` is not greater than that of `b`.
-fn up_to<T: Sequenced + Copy>(a: T, b: T) -> bool
-    ensures { result ≡ nat_le (T.Sequenced.sequence a) (T.Sequenced.sequence b) }
-{
-    a.sequence_idx() <= b.sequence_idx()
 }

@@ -39,7 +39,7 @@ impl Sequenced for PptHeader {
 #[cfg(test)]
 mod tests {
     use super::*;
-    use ordered::{OrderedList, fill_ordered, insert_ordered};
+    use ordered::{Full, OrderedList, fill_ordered, insert_ordered};
     use std::test::Fail;
 
     const NO_PACKET: PpmPacket = PpmPacket {
@@ -77,14 +77,12 @@ mod tests {
     fn equal_indices_keep_arrival_order(rt: HostRuntime) -> Result<(), Fail> {
         let mut rows = [NO_PACKET; 6];
         let mut list = OrderedList::new(&mut rows);
-        assert!(rt; list.insert(packet(2, 10)).is_ok());
-        assert!(rt; list.insert(packet(1, 20)).is_ok());
-        assert!(rt; list.insert(packet(2, 30)).is_ok());
-        assert!(rt; list.insert(packet(1, 40)).is_ok());
-        assert!(rt; list.insert(packet(0, 50)).is_ok());
+        for (zppm, place) in [(2, 10), (1, 20), (2, 30), (1, 40), (0, 50)] {
+            list.insert(packet(zppm, place))?;
+        }
         assert_eq!(rt; list.len(), 5);
         assert_eq!(rt; list.room(), 1);
-        assert_eq!(rt; list.get(5).is_none(), true);
+        assert!(rt; list.get(5).is_none());
         let places = [50, 20, 40, 10, 30];
         for (k, place) in places.iter().enumerate() {
             let found = list.get(k).ok_or("no row")?;
@@ -95,16 +93,17 @@ mod tests {
     }
 
     #[test]
-    fn full_list_refuses(rt: HostRuntime) {
+    fn full_list_refuses(rt: HostRuntime) -> Result<(), Fail> {
         let mut rows = [NO_HEADER; 2];
         let mut list = OrderedList::new(&mut rows);
-        assert!(rt; list.insert(header(7, 10)).is_ok());
-        assert!(rt; list.insert(header(4, 20)).is_ok());
-        assert!(rt; list.insert(header(0, 30)).is_err());
+        list.insert(header(7, 10))?;
+        list.insert(header(4, 20))?;
+        assert_eq!(rt; list.insert(header(0, 30)), Err(Full));
         assert_eq!(rt; list.len(), 2);
         assert_eq!(rt; list.room(), 0);
         assert_eq!(rt; rows[0].place, 20);
         assert_eq!(rt; rows[1].place, 10);
+        Ok(())
     }
 
     #[test]
@@ -115,14 +114,14 @@ mod tests {
         assert_eq!(rt; list.room(), 2);
         assert!(rt; list.get(0).is_none());
         let mut none: [PptHeader; 0] = [];
-        assert!(rt; insert_ordered(&mut none, 0, header(1, 10)).is_err());
+        assert_eq!(rt; insert_ordered(&mut none, 0, header(1, 10)), Err(Full));
     }
 
     #[test]
     fn descending_arrivals(rt: HostRuntime) {
         let mut rows = [NO_PACKET; 4];
         let records = [packet(9, 10), packet(5, 20), packet(0, 30)];
-        assert_eq!(rt; fill_ordered(&mut rows, &records).ok(), Some(3));
+        assert_eq!(rt; fill_ordered(&mut rows, &records), Ok(3));
         assert_eq!(rt; rows[0].place, 30);
         assert_eq!(rt; rows[1].place, 20);
         assert_eq!(rt; rows[2].place, 10);
@@ -133,16 +132,12 @@ mod tests {
     #[test]
     fn resumed_and_refused(rt: HostRuntime) -> Result<(), Fail> {
         let mut rows = [NO_HEADER; 3];
-        let count = insert_ordered(&mut rows, 0, header(6, 10))
-            .ok()
-            .ok_or("refused")?;
+        let count = insert_ordered(&mut rows, 0, header(6, 10))?;
         let mut list = OrderedList::resume(&mut rows, count);
-        assert!(rt;
-            list.insert_all(&[header(2, 20), header(2, 30), header(8, 40)])
-                .is_err()
-        );
+        let three = [header(2, 20), header(2, 30), header(8, 40)];
+        assert_eq!(rt; list.insert_all(&three), Err(Full));
         assert_eq!(rt; list.len(), 1);
-        assert!(rt; list.insert_all(&[header(6, 20), header(2, 30)]).is_ok());
+        list.insert_all(&[header(6, 20), header(2, 30)])?;
         assert_eq!(rt; list.len(), 3);
         assert_eq!(rt; rows[0].place, 30);
         assert_eq!(rt; rows[1].place, 10);

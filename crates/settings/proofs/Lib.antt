@@ -1,3 +1,2 @@
 pub mod Applied
 pub mod Rank
-pub mod Zeros

@@ -1,5 +1,6 @@
 -- Segments applied one after another leave what the last of each kind says.
 use Rattle.std.proofs.Common.{◌≡◌, ℕ, ◌/◌, ◌%◌, Bool, true, false, cond, ◌||◌, eqb, List, [], ◌∷◌, is_some, Some, None, Option, sym, refl, ap, ◌∙◌, arith}
+use Rattle.std.specs.Option.{option_or}
 use Rattle.coding.specs.declared.parameters.CodingStyleComponent.{CodingStyleComponent}
 use Rattle.coding.specs.declared.parameters.CodingStyleDefault.{CodingStyleDefault}
 use Rattle.coding.specs.declared.styles.CodingStyleFlags.{CodingStyleFlags}
@@ -7,9 +8,9 @@ use Rattle.quantization.specs.declared.info.QuantizationInfo.{QuantizationInfo}
 use Rattle.settings.specs.declared.rows.ComponentSettings.{ComponentSettings}
 use Rattle.settings.specs.declared.inherit.Setting.{Setting}
 use Rattle.settings.specs.declared.inherit.Setting.TheVariants.{Cod, Coc, Qcd, Qcc}
-use Rattle.settings.specs.Inheritance.{joined, after, settings_after_coc, settings_after_qcc, applied, or_else, last_coc, last_cod, last_qcc, last_qcd, styled, other_flags_of, quantized, Sets, Settled}
+use Rattle.settings.specs.Inheritance.{joined, after, settings_after_coc, settings_after_qcc, applied, last_coc, last_cod, last_qcc, last_qcd, styled, other_flags_of, quantized, Sets, Settled}
 
-none_else : {A : Type 0} (a : Option A) → or_else a None ≡ a
+none_else : {A : Type 0} (a : Option A) → option_or a None ≡ a
 none_else (Some a) = refl
 none_else None = refl
 
@@ -27,7 +28,7 @@ high_joined a b = omega arith
 -- a COD before the rest
 styled_cod :
     {A : Type 0} (f : CodingStyleComponent → A) (c : Option CodingStyleComponent) (own : Bool) (d : Option CodingStyleDefault) (x : CodingStyleDefault) (a b : A)
-    → b ≡ cond own a (f x.component) → styled f c own d b ≡ styled f (or_else c None) own (or_else d (Some x)) a
+    → b ≡ cond own a (f x.component) → styled f c own d b ≡ styled f (option_or c None) own (option_or d (Some x)) a
 styled_cod f (Some c) own d x a b e = refl
 styled_cod f None true d x a b e = e
 styled_cod f None false (Some y) x a b e = refl
@@ -36,23 +37,23 @@ styled_cod f None false None x a b e = e
 -- an own COC before the rest
 styled_coc :
     {A : Type 0} (f : CodingStyleComponent → A) (c : Option CodingStyleComponent) (own : Bool) (d : Option CodingStyleDefault) (x : CodingStyleComponent) (a b : A)
-    → b ≡ f x → styled f c true d b ≡ styled f (or_else c (Some x)) own (or_else d None) a
+    → b ≡ f x → styled f c true d b ≡ styled f (option_or c (Some x)) own (option_or d None) a
 styled_coc f (Some c) own d x a b e = refl
 styled_coc f None own d x a b e = e
 
 -- a segment that sets no coding style
 styled_none :
     {A : Type 0} (f : CodingStyleComponent → A) (c : Option CodingStyleComponent) (own : Bool) (d : Option CodingStyleDefault) (a : A)
-    → styled f c own d a ≡ styled f (or_else c None) own (or_else d None) a
+    → styled f c own d a ≡ styled f (option_or c None) own (option_or d None) a
 styled_none f c own d a = rw (none_else c, none_else d) refl
 
-others_cod : (d : Option CodingStyleDefault) (x : CodingStyleDefault) (m n : ℕ) → m ≡ x.component.flags.raw / 2 → other_flags_of d m ≡ other_flags_of (or_else d (Some x)) n
+others_cod : (d : Option CodingStyleDefault) (x : CodingStyleDefault) (m n : ℕ) → m ≡ x.component.flags.raw / 2 → other_flags_of d m ≡ other_flags_of (option_or d (Some x)) n
 others_cod (Some y) x m n e = refl
 others_cod None x m n e = e
 
 quantized_qcd :
     (c : Option QuantizationInfo) (own : Bool) (d : Option QuantizationInfo) (x a : QuantizationInfo)
-    → quantized c own d (cond own a x) ≡ quantized (or_else c None) own (or_else d (Some x)) a
+    → quantized c own d (cond own a x) ≡ quantized (option_or c None) own (option_or d (Some x)) a
 quantized_qcd (Some c) own d x a = refl
 quantized_qcd None true d x a = refl
 quantized_qcd None false (Some y) x a = refl
@@ -60,22 +61,22 @@ quantized_qcd None false None x a = refl
 
 quantized_qcc :
     (c : Option QuantizationInfo) (own : Bool) (d : Option QuantizationInfo) (x a : QuantizationInfo)
-    → quantized c true d x ≡ quantized (or_else c (Some x)) own (or_else d None) a
+    → quantized c true d x ≡ quantized (option_or c (Some x)) own (option_or d None) a
 quantized_qcc (Some c) own d x a = refl
 quantized_qcc None own d x a = refl
 
 quantized_none :
     (c : Option QuantizationInfo) (own : Bool) (d : Option QuantizationInfo) (a : QuantizationInfo)
-    → quantized c own d a ≡ quantized (or_else c None) own (or_else d None) a
+    → quantized c own d a ≡ quantized (option_or c None) own (option_or d None) a
 quantized_none c own d a = rw (none_else c, none_else d) refl
 
-own_some : {A : Type 0} (own : Bool) (c : Option A) (x : A) → (true || is_some c) ≡ (own || is_some (or_else c (Some x)))
+own_some : {A : Type 0} (own : Bool) (c : Option A) (x : A) → (true || is_some c) ≡ (own || is_some (option_or c (Some x)))
 own_some true (Some c) x = refl
 own_some false (Some c) x = refl
 own_some true None x = refl
 own_some false None x = refl
 
-own_none : {A : Type 0} (own : Bool) (c : Option A) → (own || is_some c) ≡ (own || is_some (or_else c None))
+own_none : {A : Type 0} (own : Bool) (c : Option A) → (own || is_some c) ≡ (own || is_some (option_or c None))
 own_none own c = rw (none_else c) refl
 
 -- what COD makes of the two parts of the flags
@@ -102,14 +103,14 @@ raw_cond false a b = refl
 -- a segment that is not the component's
 passed :
     (s : ComponentSettings) (c : Option CodingStyleComponent) (d : Option CodingStyleDefault) (q e : Option QuantizationInfo) (t : ComponentSettings)
-    → Sets s c d q e t → Sets s (or_else c None) (or_else d None) (or_else q None) (or_else e None) t
+    → Sets s c d q e t → Sets s (option_or c None) (option_or d None) (option_or q None) (option_or e None) t
 passed s c d q e t r = rw (none_else c, none_else d, none_else q, none_else e) r
 
 -- COC before the rest, whose outcome from any row is known
 by_coc :
     (s : ComponentSettings) (x : CodingStyleComponent) (c : Option CodingStyleComponent) (d : Option CodingStyleDefault) (q e : Option QuantizationInfo) (b : Bool)
     (f : ComponentSettings → ComponentSettings) → ((t : ComponentSettings) → Sets t c d q e (f t))
-    → Sets s (or_else c (cond b (Some x) None)) (or_else d None) (or_else q None) (or_else e None) (f (cond b (settings_after_coc x s) s))
+    → Sets s (option_or c (cond b (Some x) None)) (option_or d None) (option_or q None) (option_or e None) (f (cond b (settings_after_coc x s) s))
 by_coc s x c d q e false f all = passed s c d q e (f s) (all s)
 by_coc s x c d q e true f all =
     let r = all (settings_after_coc x s) in
@@ -131,7 +132,7 @@ by_coc s x c d q e true f all =
 by_qcc :
     (s : ComponentSettings) (x : QuantizationInfo) (c : Option CodingStyleComponent) (d : Option CodingStyleDefault) (q e : Option QuantizationInfo) (b : Bool)
     (f : ComponentSettings → ComponentSettings) → ((t : ComponentSettings) → Sets t c d q e (f t))
-    → Sets s (or_else c None) (or_else d None) (or_else q (cond b (Some x) None)) (or_else e None) (f (cond b (settings_after_qcc x s) s))
+    → Sets s (option_or c None) (option_or d None) (option_or q (cond b (Some x) None)) (option_or e None) (f (cond b (settings_after_qcc x s) s))
 by_qcc s x c d q e false f all = passed s c d q e (f s) (all s)
 by_qcc s x c d q e true f all =
     let r = all (settings_after_qcc x s) in

@@ -1,5 +1,6 @@
 -- Which segment sets a component's coding style and quantization (T.800 A.6): COC over COD, QCC over QCD.
-use Rattle.std.specs.Prelude.{◌≡◌, ℕ, ◌+◌, ◌*◌, ◌/◌, ◌%◌, Bool, true, false, cond, ◌||◌, List, [], ◌∷◌, is_some, Some, None, Option, ◌==◌}
+use Rattle.std.specs.Prelude.{◌≡◌, ℕ, ◌+◌, ◌*◌, ◌/◌, ◌%◌, Bool, true, false, if◌then◌else◌, ◌||◌, List, [], ◌∷◌, is_some, Some, None, Option, ◌==◌}
+use Rattle.std.specs.Option.{option_or}
 use Rattle.coding.specs.declared.parameters.CodingStyleComponent.{CodingStyleComponent}
 use Rattle.coding.specs.declared.parameters.CodingStyleDefault.{CodingStyleDefault}
 use Rattle.coding.specs.declared.styles.CodingStyleFlags.{CodingStyleFlags}
@@ -21,8 +22,8 @@ joined_flags low others = record { raw = joined low.raw others.raw }
 abbrev pub settings_after_cod : CodingStyleComponent → ComponentSettings → ComponentSettings
 settings_after_cod c s =
     record {
-      flags = cond s.coc (joined_flags s.flags c.flags) c.flags;
-      parameters = cond s.coc s.parameters c.parameters;
+      flags = if s.coc then joined_flags s.flags c.flags else c.flags;
+      parameters = if s.coc then s.parameters else c.parameters;
       quantization = s.quantization;
       coc = s.coc;
       qcc = s.qcc;
@@ -43,7 +44,7 @@ settings_after_qcd q s =
     record {
       flags = s.flags;
       parameters = s.parameters;
-      quantization = cond s.qcc s.quantization q;
+      quantization = if s.qcc then s.quantization else q;
       coc = s.coc;
       qcc = s.qcc;
     }
@@ -53,22 +54,18 @@ settings_after_qcc q s = record { flags = s.flags; parameters = s.parameters; qu
 
 abbrev pub after : ℕ → Setting → ComponentSettings → ComponentSettings
 after k (Cod c) s = settings_after_cod c.component s
-after k (Coc i c) s = cond (i == k) (settings_after_coc c s) s
+after k (Coc i c) s = if i == k then settings_after_coc c s else s
 after k (Qcd q) s = settings_after_qcd q s
-after k (Qcc i q) s = cond (i == k) (settings_after_qcc q s) s
+after k (Qcc i q) s = if i == k then settings_after_qcc q s else s
 
 abbrev pub applied : ℕ → ComponentSettings → List Setting → ComponentSettings
 applied k s [] = s
 applied k s (x ∷ xs) = applied k (after k x s) xs
 
 -- the last segment of its kind, of a component where it has an index
-abbrev pub or_else : {A : Type 0} → Option A → Option A → Option A
-or_else (Some a) b = Some a
-or_else None b = b
-
 abbrev pub coc_in : ℕ → Setting → Option CodingStyleComponent
 coc_in k (Cod c) = None
-coc_in k (Coc i c) = cond (i == k) (Some c) None
+coc_in k (Coc i c) = if i == k then Some c else None
 coc_in k (Qcd q) = None
 coc_in k (Qcc i q) = None
 
@@ -82,7 +79,7 @@ abbrev pub qcc_in : ℕ → Setting → Option QuantizationInfo
 qcc_in k (Cod c) = None
 qcc_in k (Coc i c) = None
 qcc_in k (Qcd q) = None
-qcc_in k (Qcc i q) = cond (i == k) (Some q) None
+qcc_in k (Qcc i q) = if i == k then Some q else None
 
 abbrev pub qcd_in : Setting → Option QuantizationInfo
 qcd_in (Cod c) = None
@@ -92,19 +89,19 @@ qcd_in (Qcc i q) = None
 
 abbrev pub last_coc : ℕ → List Setting → Option CodingStyleComponent
 last_coc k [] = None
-last_coc k (x ∷ xs) = or_else (last_coc k xs) (coc_in k x)
+last_coc k (x ∷ xs) = option_or (last_coc k xs) (coc_in k x)
 
 abbrev pub last_cod : List Setting → Option CodingStyleDefault
 last_cod [] = None
-last_cod (x ∷ xs) = or_else (last_cod xs) (cod_in x)
+last_cod (x ∷ xs) = option_or (last_cod xs) (cod_in x)
 
 abbrev pub last_qcc : ℕ → List Setting → Option QuantizationInfo
 last_qcc k [] = None
-last_qcc k (x ∷ xs) = or_else (last_qcc k xs) (qcc_in k x)
+last_qcc k (x ∷ xs) = option_or (last_qcc k xs) (qcc_in k x)
 
 abbrev pub last_qcd : List Setting → Option QuantizationInfo
 last_qcd [] = None
-last_qcd (x ∷ xs) = or_else (last_qcd xs) (qcd_in x)
+last_qcd (x ∷ xs) = option_or (last_qcd xs) (qcd_in x)
 
 -- the coding style that holds: the component's own COC, else COD unless there was an own COC before, else what there was
 abbrev pub styled : {A : Type 0} → (CodingStyleComponent → A) → Option CodingStyleComponent → Bool → Option CodingStyleDefault → A → A

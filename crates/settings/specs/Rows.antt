@@ -1,5 +1,6 @@
 -- Blank rows: zeros, with 1 for a component's precision and steps, and 2 for the exponents of a code-block's width and height.
 use Rattle.std.specs.Prelude.{◌≡◌, false, replicate}
+use Rattle.coding.specs.Coding.{widths_of, heights_of}
 use Rattle.coding.specs.declared.parameters.CodingStyleParameters.{CodingStyleParameters}
 use Rattle.coding.specs.declared.styles.CodeBlockStyle.{CodeBlockStyle}
 use Rattle.coding.specs.declared.styles.ProgressionOrder.TheVariants.{LayerResolutionComponentPosition}
@@ -9,9 +10,8 @@ use Rattle.quantization.specs.declared.info.QuantizationStyle.TheVariants.{NoQua
 use Rattle.segments.specs.declared.size_data.ComponentSizeInfo.{ComponentSizeInfo}
 use Rattle.settings.specs.declared.rows.ComponentSettings.{ComponentSettings}
 use Rattle.settings.specs.declared.rows.TileRow.{TileRow}
-use Rattle.settings.specs.declared.rows.PacketRow.{PacketRow}
+use Rattle.settings.specs.declared.rows.PackedRow.{PackedRow}
 use Rattle.settings.specs.declared.rows.PartRow.{PartRow}
-use Rattle.settings.specs.declared.rows.HeaderRow.{HeaderRow}
 
 pub record BlankComponent (c : ComponentSizeInfo) : Type 0 where
   pub precision : c.precision ≡ 1
@@ -27,8 +27,8 @@ pub record BlankParameters (p : CodingStyleParameters) : Type 0 where
   pub height : p.height ≡ 2
   pub style : p.style ≡ plain_style
   pub transformation : p.transformation ≡ Irreversible97
-  pub widths : p.widths ≡ replicate 33 0
-  pub heights : p.heights ≡ replicate 33 0
+  pub widths : widths_of p.precincts ≡ replicate 33 0
+  pub heights : heights_of p.precincts ≡ replicate 33 0
 
 abbrev pub blank_quantization : QuantizationInfo
 blank_quantization = record { style = NoQuantization; guard = 0; steps = replicate 97 (record { mantissa = 0; exponent = 0 }); count = 0 }
@@ -49,11 +49,8 @@ blank_tile =
       mct = false;
     }
 
-abbrev pub blank_packet : PacketRow
-blank_packet = record { zppm = 0; place = 0; len = 0 }
+abbrev pub blank_packed : PackedRow
+blank_packed = record { index = 0; place = 0; len = 0 }
 
 abbrev pub blank_part : PartRow
 blank_part = record { tile = 0; place = 0; len = 0; header = 0; headers = 0 }
-
-abbrev pub blank_header : HeaderRow
-blank_header = record { zppt = 0; place = 0; len = 0 }

@@ -32,18 +32,13 @@ impl ComponentSettings {
         if self.coc {
             ComponentSettings {
                 flags: join_flags(self.flags, cod.flags),
-                parameters: self.parameters,
-                quantization: self.quantization,
-                coc: self.coc,
-                qcc: self.qcc,
+                ..*self
             }
         } else {
             ComponentSettings {
                 flags: cod.flags,
                 parameters: cod.parameters,
-                quantization: self.quantization,
-                coc: self.coc,
-                qcc: self.qcc,
+                ..*self
             }
         }
     }
@@ -55,9 +50,8 @@ impl ComponentSettings {
         ComponentSettings {
             flags: join_flags(coc.flags, self.flags),
             parameters: coc.parameters,
-            quantization: self.quantization,
             coc: true,
-            qcc: self.qcc,
+            ..*self
         }
     }
 
@@ -69,11 +63,8 @@ impl ComponentSettings {
             return *self;
         }
         ComponentSettings {
-            flags: self.flags,
-            parameters: self.parameters,
             quantization: *qcd,
-            coc: self.coc,
-            qcc: self.qcc,
+            ..*self
         }
     }
 
@@ -82,11 +73,9 @@ impl ComponentSettings {
         ensures { result ≡ settings_after_qcc qcc.now self.now }
     {
         ComponentSettings {
-            flags: self.flags,
-            parameters: self.parameters,
             quantization: *qcc,
-            coc: self.coc,
             qcc: true,
+            ..*self
         }
     }
 }
@@ -97,10 +86,10 @@ impl TileRow {
         ensures { result ≡ tile_after cod.now self.now }
     {
         TileRow {
-            area: self.area,
             progression: cod.progression,
             layers: cod.layers,
             mct: cod.mct,
+            ..*self
         }
     }
 }
@@ -111,11 +100,9 @@ impl ComponentSettings {
         ensures { result ≡ inherited self.now }
     {
         ComponentSettings {
-            flags: self.flags,
-            parameters: self.parameters,
-            quantization: self.quantization,
             coc: false,
             qcc: false,
+            ..*self
         }
     }
 

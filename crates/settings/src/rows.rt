@@ -1,14 +1,15 @@
-ghost use Rattle.settings.specs.Rows.{BlankComponent, BlankParameters, BlankSettings, blank_header, blank_packet, blank_part, blank_tile};
+ghost use Rattle.settings.specs.Rows.{BlankComponent, BlankParameters, BlankSettings, blank_packed, blank_part, blank_tile};
 ghost use Rattle.std.specs.Prelude.{◌≡◌};
 
-use coding::parameters::CodingStyleParameters;
+use coding::parameters::{CodingStyleParameters, PrecinctSize};
 use coding::styles::{CodeBlockStyle, CodingStyleFlags, ProgressionOrder, WaveletTransform};
 use ordered::Sequenced;
 use quantization::info::{KEPT, QuantizationInfo, QuantizationStyle, StepSize};
 use rect::IntRect;
 use segments::size_data::ComponentSizeInfo;
 
-/// A component's settings in a tile; `coc` and `qcc` say whether the tile has a COC and a QCC of its own for it.
+/// A component's settings in a tile; `coc` and `qcc` say whether the tile has a COC and a QCC of its own for it. They are flags and no
+/// Options, since parameters and quantization are there in either case.
 #[derive(Clone, Copy)]
 pub struct ComponentSettings {
     pub flags: CodingStyleFlags,
@@ -27,10 +28,11 @@ pub struct TileRow {
     pub mct: bool,
 }
 
-/// A packet of a PPM segment: the segment's index, and where its bytes lie in the codestream.
+/// Packed packet headers, a packet of a PPM segment or the data of a PPT segment: the segment's index, and where the bytes lie in the
+/// codestream.
 #[derive(Clone, Copy)]
-pub struct PacketRow {
-    pub zppm: u8,
+pub struct PackedRow {
+    pub index: u8,
     pub place: usize,
     pub len: usize,
 }
@@ -45,27 +47,11 @@ pub struct PartRow {
     pub headers: usize,
 }
 
-/// A packed packet header of a tile-part: its index, and where its bytes lie in the codestream.
-#[derive(Clone, Copy)]
-pub struct HeaderRow {
-    pub zppt: u8,
-    pub place: usize,
-    pub len: usize,
-}
-
-impl Sequenced for PacketRow {
-    ghost sequence = { λ p. p.zppm };
+impl Sequenced for PackedRow {
+    ghost sequence = { λ row. row.index };
 
     fn sequence_idx(&self) -> u16 {
-        u16::from(self.zppm)
-    }
-}
-
-impl Sequenced for HeaderRow {
-    ghost sequence = { λ h. h.zppt };
-
-    fn sequence_idx(&self) -> u16 {
-        u16::from(self.zppt)
+        u16::from(self.index)
     }
 }
 
@@ -96,8 +82,10 @@ pub fn blank_parameters() -> CodingStyleParameters
             segmentation: false,
         },
         transformation: WaveletTransform::Irreversible97,
-        widths: [0; 33],
-        heights: [0; 33],
+        precincts: [PrecinctSize {
+            width: 0,
+            height: 0,
+        }; 33],
     }
 }
 
@@ -106,17 +94,13 @@ impl ComponentSettings {
     pub fn blank() -> ComponentSettings
         ensures { BlankSettings result }
     {
-        let steps = [StepSize {
-            mantissa: 0,
-            exponent: 0,
-        }; KEPT];
         ComponentSettings {
             flags: CodingStyleFlags { raw: 0 },
             parameters: blank_parameters(),
             quantization: QuantizationInfo {
                 style: QuantizationStyle::NoQuantization,
                 guard: 0,
-                steps,
+                steps: [StepSize::default(); KEPT],
                 count: 0,
             },
             coc: false,
@@ -139,13 +123,13 @@ impl TileRow {
     }
 }
 
-impl PacketRow {
-    /// The row of no packet.
-    pub fn blank() -> PacketRow
-        ensures { result ≡ blank_packet }
+impl PackedRow {
+    /// The row of no packed headers.
+    pub fn blank() -> PackedRow
+        ensures { result ≡ blank_packed }
     {
-        PacketRow {
-            zppm: 0,
+        PackedRow {
+            index: 0,
             place: 0,
             len: 0,
         }
@@ -153,7 +137,7 @@ impl PacketRow {
 }
 
 impl PartRow {
-    /// The row of no tile-part.
+    /// The row of no tile-part. Each kind of row has a blank of its own: a trait would serve no generic user.
     pub fn blank() -> PartRow
         ensures { result ≡ blank_part }
     {
@@ -163,19 +147,6 @@ impl PartRow {
             len: 0,
             header: 0,
             headers: 0,
-        }
-    }
-}
-
-impl HeaderRow {
-    /// The row of no header.
-    pub fn blank() -> HeaderRow
-        ensures { result ≡ blank_header }
-    {
-        HeaderRow {
-            zppt: 0,
-            place: 0,
-            len: 0,
         }
     }
 }

@@ -1,21 +1,22 @@
 ghost use Rattle.bands.specs.SubBands.{level};
-ghost use Rattle.settings.specs.StepSizes.{derived, exponent_mantissa_of, given, has_derived_style, row_in, step_row_of, validated};
-ghost use Rattle.std.specs.Prelude.{◌≡◌, ◌≤◌};
+ghost use Rattle.settings.specs.StepSizes.{DerivedAt, exponent_mantissa_of, step_row_of, validated};
+ghost use Rattle.std.specs.Prelude.{◌≡◌};
 
 use crate::rows::ComponentSettings;
+use bands::decomposition::Decomposition;
+use bands::resolution::Resolution;
 use bands::sub_band::SubBandType;
-use faults::decode::{BookError, DecodeError, ValidationError};
-use quantization::info::{QuantizationInfo, QuantizationStyle, StepSize};
+use faults::decode::{DecodeError, ValidationError};
+use quantization::info::{QuantizationStyle, StepSize};
 
 // Which step size is a sub-band's.
-fn step_row(resolution: u8, band: SubBandType) -> Option<u16>
-    requires { resolution ≤ 32 }
-    ensures { result ≡ step_row_of resolution band }
+fn step_row(at: Resolution, band: SubBandType) -> Option<u16>
+    ensures { result ≡ step_row_of at.r band }
 {
-    if resolution == 0 {
+    if at.r == 0 {
         return Some(0);
     }
-    let before = 3 * (u16::from(resolution) - 1);
+    let before = 3 * (u16::from(at.r) - 1);
     match band {
         SubBandType::LowLow => None,
         SubBandType::HighLow => Some(before + 1),
@@ -24,50 +25,16 @@ fn step_row(resolution: u8, band: SubBandType) -> Option<u16>
     }
 }
 
-fn given_step(step: Option<StepSize>) -> Result<(u16, u16), DecodeError>
-    ensures { result ≡ given step }
+// The first step size, for the sub-bands of another resolution (E-5).
+fn derived_step(first: StepSize, at: Resolution) -> Result<(u16, u16), ValidationError>
+    ensures { DerivedAt at.levels (level at.levels at.r) first result }
 {
-    match step {
-        Some(step) => Ok((step.exponent, step.mantissa)),
-        None => Err(DecodeError::Validation(ValidationError::MissingStepSize)),
+    let levels = u32::from(at.levels);
+    let sum = u32::from(first.exponent) + u32::from(at.decomposition_level());
+    if sum < levels {
+        return Err(ValidationError::InvalidExponents);
     }
-}
-
-// The number of the sub-bands' level.
-fn sub_band_level(levels: u8, resolution: u8) -> u8
-    requires bound { resolution ≤ levels }
-    requires deep { levels ≤ 32 }
-    ensures value { result ≡ level levels resolution }
-    ensures below { result ≤ levels }
-{
-    if resolution == 0 {
-        levels
-    } else {
-        levels + 1 - resolution
-    }
-}
-
-fn derived_step(levels: u8, n: u8, first: Option<StepSize>) -> Result<(u16, u16), DecodeError>
-    requires { n ≤ levels }
-    ensures { result ≡ derived levels n first }
-{
-    let Some(step) = first else {
-        return Err(DecodeError::Validation(ValidationError::MissingStepSize));
-    };
-    let sum = u32::from(step.exponent) + u32::from(n);
-    if sum < u32::from(levels) {
-        return Err(DecodeError::Validation(ValidationError::InvalidExponents));
-    }
-    Ok(((sum - u32::from(levels)) as u16, step.mantissa))
-}
-
-fn row_in(quantization: &QuantizationInfo, row: Option<u16>) -> Option<StepSize>
-    ensures { result ≡ row_in quantization.now row }
-{
-    match row {
-        Some(k) => quantization.step(k),
-        None => None,
-    }
+    Ok(((sum - levels) as u16, first.mantissa))
 }
 
 impl ComponentSettings {
@@ -80,19 +47,17 @@ impl ComponentSettings {
         ensures { result ≡ exponent_mantissa_of self.now.quantization self.now.parameters.levels resolution band }
     {
         let levels = self.parameters.levels;
-        if resolution > levels {
-            return Err(DecodeError::Book(BookError::NoSuchIndex));
-        }
+        let at = Decomposition { levels }.resolution(resolution)?;
         match self.quantization.style {
             QuantizationStyle::ScalarDerived => {
-                derived_step(
-                    levels,
-                    sub_band_level(levels, resolution),
-                    self.quantization.step(0),
-                )
+                let first = self.quantization.step(0);
+                let first = first.ok_or(ValidationError::MissingStepSize)?;
+                Ok(derived_step(first, at)?)
             }
             QuantizationStyle::NoQuantization | QuantizationStyle::ScalarExpounded => {
-                given_step(row_in(&self.quantization, step_row(resolution, band)))
+                let step = step_row(at, band).and_then(|k| self.quantization.step(k));
+                let step = step.ok_or(ValidationError::MissingStepSize)?;
+                Ok((step.exponent, step.mantissa))
             }
         }
     }
@@ -104,25 +69,14 @@ impl ComponentSettings {
         let levels = u16::from(self.parameters.levels);
         let count = self.quantization.count;
         if count == 0 {
-            return Err(DecodeError::Validation(ValidationError::MissingPrecinctExponents {
-                place,
-            }));
+            return Err(ValidationError::MissingPrecinctExponents { place }.into());
         }
-        if is_derived(self.quantization.style) {
+        if self.quantization.style == QuantizationStyle::ScalarDerived {
             return Ok(());
         }
         if levels > 0 && count <= 3 * levels {
-            return Err(DecodeError::Validation(ValidationError::InsufficientExponents { place }));
+            return Err(ValidationError::InsufficientExponents { place }.into());
         }
         Ok(())
-    }
-}
-
-fn is_derived(style: QuantizationStyle) -> bool
-    ensures { result ≡ has_derived_style style }
-{
-    match style {
-        QuantizationStyle::ScalarDerived => true,
-        QuantizationStyle::NoQuantization | QuantizationStyle::ScalarExpounded => false,
     }
 }

@@ -5,6 +5,7 @@ use bands::sub_band::SubBandType;
 use coding::coc::coc_marker;
 use coding::cod::cod_marker;
 use faults::decode::DecodeError;
+use layouts::header::HeaderKind;
 use quantization::markers::qcd_marker;
 use reader::reader::BitReader;
 use settings::inherit::{Setting, main_settings};
@@ -31,8 +32,8 @@ fn coc(index: u8, flags: u8, levels: u8) -> Setting {
     bytes[2] = index;
     bytes[3] = flags;
     bytes[4] = levels;
-    match coc_marker(&mut BitReader::new(&bytes, 0), 2) {
-        Ok(pair) => Setting::Coc(pair.0, pair.1),
+    match coc_marker(&mut BitReader::new(&bytes, 0), HeaderKind::Main, 2) {
+        Ok((index, coc)) => Setting::Coc(index, coc),
         Err(_) => unread(),
     }
 }
@@ -53,9 +54,10 @@ fn unread() -> Setting {
 }
 
 fn show(rt: &HostRuntime, label: &str, row: &ComponentSettings) -> io::Result<()> {
-    let flags = row.flags.raw;
-    let levels = row.parameters.levels;
-    println!(rt; "{label}: flags {flags}, levels {levels}")
+    println!(rt;
+        "{label}: flags {}, levels {}",
+        row.flags.raw, row.parameters.levels
+    )
 }
 
 fn rank(rt: &HostRuntime) -> io::Result<()> {
@@ -89,8 +91,7 @@ fn rank(rt: &HostRuntime) -> io::Result<()> {
 }
 
 fn show_fault(rt: &HostRuntime, fault: &DecodeError) -> io::Result<()> {
-    let number = fault.number();
-    println!(rt; "fault {number}")
+    println!(rt; "fault {}", fault.number())
 }
 
 fn step(
