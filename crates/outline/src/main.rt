@@ -2,10 +2,7 @@
 //! stops it. The codestream comes on standard input.
 #![tactic(auto)]
 
-ghost use Rattle.std.specs.Prelude.{◌≤◌, length, IfOk};
-
-use faults::decode::DecodeError;
-use picture::outline::{Outline, read_outline};
+use picture::outline::{ComponentOutline, Outline, read_outline};
 use std::io;
 use std::io::Read;
 
@@ -14,24 +11,6 @@ const LIMIT: usize = 32_768;
 
 /// How many tiles are printed.
 const TILES: u32 = 64;
-
-fn read_input(rt: &HostRuntime, buffer: &mut [u8]) -> io::Result<usize>
-    ensures { IfOk result (λ n. n ≤ length buffer.old) }
-{
-    let mut input = rt.stdin();
-    let mut filled = 0;
-    for _ in 0..LIMIT {
-        if filled >= buffer.len() {
-            break;
-        }
-        let count = input.read(&mut buffer[filled..])?;
-        if count == 0 {
-            break;
-        }
-        filled += count;
-    }
-    Ok(filled)
-}
 
 fn print_sizes(rt: &HostRuntime, outline: &Outline) -> io::Result<()> {
     let size = outline.size;
@@ -50,12 +29,13 @@ fn print_sizes(rt: &HostRuntime, outline: &Outline) -> io::Result<()> {
 fn print_components(rt: &HostRuntime, outline: &Outline, codestream: &[u8]) -> io::Result<()> {
     for index in 0..outline.size.csiz {
         if let Some(component) = outline.component(codestream, index) {
-            let info = component.info;
-            let area = component.samples;
-            let samples = area.area();
+            let ComponentOutline { info, samples } = component;
             println!(rt;
-                "comp,{index},{},{},{},{},{},{},{},{samples}",
-                info.precision, info.xrsiz, info.yrsiz, area.x0, area.y0, area.x1, area.y1
+                "comp,{index},{},{},{},{samples},{}",
+                info.precision,
+                info.xrsiz,
+                info.yrsiz,
+                samples.area()
             )?;
         }
     }
@@ -65,10 +45,7 @@ fn print_components(rt: &HostRuntime, outline: &Outline, codestream: &[u8]) -> i
 fn print_tiles(rt: &HostRuntime, outline: &Outline) -> io::Result<()> {
     for index in 0..TILES {
         if let Some(tile) = outline.grid.tile(index) {
-            println!(rt;
-                "tile,{index},{},{},{},{}",
-                tile.x0, tile.y0, tile.x1, tile.y1
-            )?;
+            println!(rt; "tile,{index},{tile}")?;
         }
     }
     let tiles = outline.grid.num_tiles();
@@ -82,18 +59,16 @@ fn print_outline(rt: &HostRuntime, outline: &Outline, codestream: &[u8]) -> io::
     print_tiles(rt, outline)
 }
 
-fn print_fault(rt: &HostRuntime, fault: &DecodeError) -> io::Result<()> {
-    let number = fault.number();
-    let place = fault.place().unwrap_or(0);
-    println!(rt; "fault,{number},{place}")
-}
-
 fn main(rt: HostRuntime) -> io::Result<()> {
-    let mut buffer = [0u8; LIMIT];
-    let count = read_input(&rt, &mut buffer)?;
-    let codestream = &buffer[0..count];
+    // With a Vec the program would trust the C library's heap too.
+    let mut buffer = [0; LIMIT];
+    let count = io::copy(
+        &mut rt.stdin().take(LIMIT as u64),
+        &mut buffer.as_mut_slice(),
+    )?;
+    let codestream = &buffer[..LIMIT.min(count as usize)];
     match read_outline(codestream) {
         Ok(outline) => print_outline(&rt, &outline, codestream),
-        Err(fault) => print_fault(&rt, &fault),
+        Err(fault) => println!(rt; "fault,{fault}"),
     }
 }

@@ -16,32 +16,27 @@ const SAMPLE: [u8; 45] = [
 /// The sample with other bytes from `place` on.
 fn patched(sample: &[u8; 45], place: usize, bytes: &[u8]) -> [u8; 45] {
     let mut codestream = *sample;
-    for (k, byte) in bytes.iter().enumerate() {
-        let at = place.saturating_add(k);
-        if at < codestream.len() {
-            codestream[at] = *byte;
-        }
+    for (slot, byte) in codestream.iter_mut().skip(place).zip(bytes) {
+        *slot = *byte;
     }
     codestream
 }
 
 fn show_fault(rt: &HostRuntime, fault: &DecodeError) -> io::Result<()> {
-    let number = fault.number();
-    let place = fault.place().unwrap_or(0);
     match fault {
         DecodeError::Marker(
             MarkerError::ParseFailure {
                 cause: Cause::Short(_),
                 ..
             },
-        ) => println!(rt; "{number},{place},short"),
+        ) => println!(rt; "{fault},short"),
         DecodeError::Marker(
             MarkerError::ParseFailure {
                 cause: Cause::Value(_),
                 ..
             },
-        ) => println!(rt; "{number},{place},value"),
-        _ => println!(rt; "{number},{place}"),
+        ) => println!(rt; "{fault},value"),
+        _ => println!(rt; "{fault}"),
     }
 }
 
@@ -194,9 +189,9 @@ fn components_and_numbers(rt: &HostRuntime) -> io::Result<()> {
 }
 
 fn cut(rt: &HostRuntime) -> io::Result<()> {
-    for count in 0..46 {
+    for count in 0..=SAMPLE.len() {
         print!(rt; "first {count} bytes")?;
-        show(rt, "", &SAMPLE[0..count])?;
+        show(rt, "", &SAMPLE[..count])?;
     }
     Ok(())
 }

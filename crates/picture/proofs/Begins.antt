@@ -7,7 +7,7 @@ use Rattle.reader.specs.declared.reader.BitReader.{BitReader}
 use Rattle.segments.specs.Siz.{Outcome, accepted, refused, siz_outcome, size_of, grid_in, component_at, ReadsSize}
 use Rattle.segments.specs.declared.size_data.SizeData.{SizeData}
 use Rattle.geometry.proofs.TileLaws.{tiles_partition}
-use Rattle.picture.specs.Outlines.{begun, outline_outcome, end_of, across, down, Sized, CutUp}
+use Rattle.picture.specs.Outlines.{begun, outline_outcome, end_of, across, down, SizeStated, CutUp}
 
 -- behind SOC the outcome is SIZ's
 first : (d : List ℕ) (o : Outcome) → marker_at d 0 ≡ Some 79 → siz_outcome d 2 ≡ o → outline_outcome d ≡ o
@@ -18,7 +18,7 @@ ended o p e = ap end_of e
 
 pub behind_soc :
     (d : List ℕ) (m a : BitReader) (r : Result SizeData DecodeError) → marker_at d 0 ≡ Some 79 → bytes_of m ≡ d → m.place ≡ 2 → ReadsSize m a r
-    → Sized d r
+    → SizeStated d r
 behind_soc d m a (Err e) k same at w =
     let o : outline_outcome d ≡ refused e a.place = first d _ k (ap₂ siz_outcome (sym same) (sym at) ∙ w) in
     o ∙ ap (refused e) (sym (ended _ _ o))

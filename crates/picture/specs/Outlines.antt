@@ -1,5 +1,5 @@
 -- What the start of a codestream says of its picture.
-use Rattle.std.specs.Prelude.{◌≡◌, ℕ, ◌+◌, ◌-◌, ◌*◌, ◌<◌, true, cond, List, Some, None, Ok, Err, Option, Result, ◌==◌}
+use Rattle.std.specs.Prelude.{◌≡◌, ℕ, ◌+◌, ◌-◌, ◌*◌, ◌<◌, true, if◌then◌else◌, List, Some, None, Ok, Err, Option, Result, ◌==◌}
 use Rattle.faults.specs.declared.decode.DecodeError.{DecodeError}
 use Rattle.faults.specs.declared.decode.DecodeError.TheVariants.{Marker}
 use Rattle.faults.specs.declared.decode.MarkerError.TheVariants.{Expected}
@@ -32,7 +32,7 @@ tiles_in g = tiles (across g) (down g)
 -- SOC, 0xFF4F, stands first, and SIZ behind it
 abbrev pub begun : Option ℕ → Outcome → Outcome
 begun None o = refused (Marker (Expected 79 0)) 0
-begun (Some m) o = cond (m == 79) o (refused (Marker (Expected 79 0)) 0)
+begun (Some m) o = if m == 79 then o else refused (Marker (Expected 79 0)) 0
 
 abbrev pub outline_outcome : List ℕ → Outcome
 outline_outcome d = begun (marker_at d 0) (siz_outcome d 2)
@@ -42,17 +42,17 @@ end_of (accepted s q) = q
 end_of (refused e q) = q
 
 -- the sizes that the codestream's SIZ states, with all their components; or the first fault
-abbrev pub Sized : List ℕ → Result SizeData DecodeError → Type 0
-Sized d (Ok s) =
+abbrev pub SizeStated : List ℕ → Result SizeData DecodeError → Type 0
+SizeStated d (Ok s) =
     (outline_outcome d ≡ accepted (size_of d s) (end_of (outline_outcome d)))
     × ((k : ℕ) → k < s.csiz → component_at d (s.components + 3 * k) ≡ true)
-Sized d (Err e) = outline_outcome d ≡ refused e (end_of (outline_outcome d))
+SizeStated d (Err e) = outline_outcome d ≡ refused e (end_of (outline_outcome d))
 
 -- the sizes with their grid; or the first fault
 abbrev pub Outlined : List ℕ → Result Outline DecodeError → Type 0
 Outlined d (Ok o) =
-    Sized d (Ok o.size) × (axis o.grid.x ≡ across (grid_in o.size)) × (axis o.grid.y ≡ down (grid_in o.size))
-Outlined d (Err e) = Sized d (Err e)
+    SizeStated d (Ok o.size) × (axis o.grid.x ≡ across (grid_in o.size)) × (axis o.grid.y ≡ down (grid_in o.size))
+Outlined d (Err e) = SizeStated d (Err e)
 
 -- the tiles' areas add up to the image's area, and every grid point of the image lies in exactly one tile
 pub record CutUp (g : Grid) : Type 0 where

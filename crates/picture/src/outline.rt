@@ -1,5 +1,5 @@
 ghost use Rattle.geometry.specs.Tiles.{axis};
-ghost use Rattle.picture.specs.Outlines.{ComponentOutlined, Outlined, Sized, TilesCover, across, down};
+ghost use Rattle.picture.specs.Outlines.{ComponentOutlined, Outlined, SizeStated, TilesCover, across, down};
 ghost use Rattle.segments.specs.Siz.{grid_in};
 ghost use Rattle.std.specs.Prelude.{◌≡◌};
 
@@ -48,15 +48,16 @@ pub fn tile_grid(size: &SizeData) -> TileGrid
 }
 
 fn read_sizes(codestream: &[u8]) -> Result<SizeData, DecodeError>
-    ensures { Sized codestream.now result }
+    ensures { SizeStated codestream.now result }
 {
     let mut reader = BitReader::new(codestream, 0);
     match reader.read_marker() {
         Ok(SOC) => size_marker(&mut reader),
-        _ => Err(DecodeError::Marker(MarkerError::Expected {
+        _ => Err(MarkerError::Expected {
             code: SOC,
             place: 0,
-        })),
+        }
+        .into()),
     }
 }
 
