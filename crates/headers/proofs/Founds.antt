@@ -62,9 +62,3 @@ image_found csiz p k m (read vs q) g a e lt h =
     let t : ltb (get_or vs 1 0) csiz ≡ true = lt-ltb (get_or vs 1 0) csiz lt in
     let s : q ≡ a.place = cc in
     rw t (refl, s, subst (λ (b : ℕ). KeptOf g (record { contents = k; values = vs; behind = b })) (sym s) h)
-
-pub image_refused :
-    (csiz p : ℕ) (k : Contents) (m : ℕ) (R : Reading) (q : ℕ) → R ≡ read (values_of R) q → csiz ≤ get_or (values_of R) 1 0
-    → in_image csiz p (as_read k m R) ≡ ends (refused (Validation (InvalidComponentMetadata p)))
-image_refused csiz p k m (failed c q) o e le = never _ _ _ _ _ refl e
-image_refused csiz p k m (read vs q) o e le = let t : ltb (get_or vs 1 0) csiz ≡ false = le-ltb (get_or vs 1 0) csiz le in rw t refl

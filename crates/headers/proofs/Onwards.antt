@@ -5,7 +5,8 @@ use Rattle.std.proofs.lemmas.Bool.Decides.{nat_tests}
 use Rattle.faults.specs.declared.decode.DecodeError.TheVariants.{Marker}
 use Rattle.faults.specs.declared.decode.MarkerError.TheVariants.{Invalid}
 use Rattle.layouts.specs.Layouts.{Field, Layout, fields, behind, Reading, read, failed, reading, followed, prefixed, meaning, size, value_at}
-use Rattle.coding.specs.Coding.{cod_layout, coc_layout, tile_coc_layout}
+use Rattle.layouts.specs.declared.header.HeaderKind.TheVariants.{Main, TilePart}
+use Rattle.coding.specs.Coding.{cod_layout, coc_layout}
 use Rattle.packed.specs.Segment.{segment_layout, place_after}
 use Rattle.packed.specs.Ppm.{ppm_reading, ending_at, inside_layout}
 use Rattle.packed.specs.Ppt.{ppt_layout}
@@ -82,9 +83,9 @@ behind_main_lem d csiz p kind.Sot l = tt
 behind_main_lem d csiz p kind.Sod l = tt
 behind_main_lem d csiz p kind.Eoc l = tt
 behind_main_lem d csiz p kind.Cod l = layout_on _ _ cod_layout d p l
-behind_main_lem d csiz p kind.Coc l = layout_on _ _ (coc_layout csiz) d p l
+behind_main_lem d csiz p kind.Coc l = layout_on _ _ (coc_layout Main csiz) d p l
 behind_main_lem d csiz p kind.Qcd l = layout_on _ _ qcd_layout d p l
-behind_main_lem d csiz p kind.Qcc l = layout_on _ _ (qcc_layout true csiz) d p l
+behind_main_lem d csiz p kind.Qcc l = layout_on _ _ (qcc_layout Main csiz) d p l
 behind_main_lem d csiz p kind.Ppm l = read_on _ _ d p (ppm_reading d (p + 2)) (ppm_on d (p + 2) l)
 behind_main_lem d csiz p kind.Ppt l = tt
 behind_main_lem d csiz p kind.Rgn l = layout_on _ _ segment_layout d p l
@@ -100,9 +101,9 @@ behind_part_lem d csiz packets p kind.Sot l = tt
 behind_part_lem d csiz packets p kind.Sod l = tt
 behind_part_lem d csiz packets p kind.Eoc l = tt
 behind_part_lem d csiz packets p kind.Cod l = layout_on _ _ cod_layout d p l
-behind_part_lem d csiz packets p kind.Coc l = image_on csiz d p _ (layout_on _ _ (tile_coc_layout csiz) d p l)
+behind_part_lem d csiz packets p kind.Coc l = image_on csiz d p _ (layout_on _ _ (coc_layout TilePart csiz) d p l)
 behind_part_lem d csiz packets p kind.Qcd l = layout_on _ _ qcd_layout d p l
-behind_part_lem d csiz packets p kind.Qcc l = image_on csiz d p _ (layout_on _ _ (qcc_layout false csiz) d p l)
+behind_part_lem d csiz packets p kind.Qcc l = image_on csiz d p _ (layout_on _ _ (qcc_layout TilePart csiz) d p l)
 behind_part_lem d csiz packets p kind.Ppm l = tt
 behind_part_lem d csiz true p kind.Ppt l = tt
 behind_part_lem d csiz false p kind.Ppt l = layout_on _ _ ppt_layout d p l

@@ -1,14 +1,17 @@
 -- What stands at a place of a header (T.800 A.3 to A.9): a segment, or what ends the header.
-use Rattle.std.specs.Prelude.{◌≡◌, ℕ, ◌+◌, ◌-◌, Bool, true, false, cond, List, [], length, drop, Some, None, Ok, Err, Option, Result, nat_lt, slice_index}
+use Rattle.std.specs.Prelude.{◌≡◌, ℕ, ◌+◌, ◌-◌, ◌<◌, ◌≤◌, Bool, if◌then◌else◌, List, [], length, drop, Some, None, Ok, Err, Option, Result, nat_lt, slice_index}
 use Rattle.faults.specs.declared.decode.DecodeError.{DecodeError}
 use Rattle.faults.specs.declared.decode.DecodeError.TheVariants.{Marker, Tile, Validation}
 use Rattle.faults.specs.declared.decode.MarkerError.TheVariants.{Invalid, Unsupported, ParseFailure}
 use Rattle.faults.specs.declared.decode.TileError.TheVariants.{PpmPptConflict}
+use Rattle.faults.specs.declared.decode.ValidationError.{ValidationError}
 use Rattle.faults.specs.declared.decode.ValidationError.TheVariants.{InvalidComponentMetadata}
 use Rattle.reader.specs.Bytes.{marker_at}
+use Rattle.reader.specs.Reads.{SameData}
 use Rattle.reader.specs.declared.reader.BitReader.{BitReader}
 use Rattle.layouts.specs.Layouts.{Reading, read, failed, meaning}
-use Rattle.coding.specs.Coding.{cod_layout, coc_layout, tile_coc_layout, MadeCod, MadeCoc}
+use Rattle.layouts.specs.declared.header.HeaderKind.TheVariants.{Main, TilePart}
+use Rattle.coding.specs.Coding.{cod_layout, coc_layout, MadeCod, MadeCoc}
 use Rattle.packed.specs.Segment.{segment_layout, place_after}
 use Rattle.packed.specs.Ppm.{ppm_reading, packets_of}
 use Rattle.packed.specs.Ppt.{ppt_layout}
@@ -60,9 +63,9 @@ behind_main d csiz p kind.Sot = ends (by_marker p)
 behind_main d csiz p kind.Sod = unsupported p
 behind_main d csiz p kind.Eoc = unsupported p
 behind_main d csiz p kind.Cod = as_read cod 82 (meaning cod_layout d (p + 2))
-behind_main d csiz p kind.Coc = as_read coc 83 (meaning (coc_layout csiz) d (p + 2))
+behind_main d csiz p kind.Coc = as_read coc 83 (meaning (coc_layout Main csiz) d (p + 2))
 behind_main d csiz p kind.Qcd = as_read qcd 92 (meaning qcd_layout d (p + 2))
-behind_main d csiz p kind.Qcc = as_read qcc 93 (meaning (qcc_layout true csiz) d (p + 2))
+behind_main d csiz p kind.Qcc = as_read qcc 93 (meaning (qcc_layout Main csiz) d (p + 2))
 behind_main d csiz p kind.Ppm = as_read ppm 96 (ppm_reading d (p + 2))
 behind_main d csiz p kind.Ppt = unsupported p
 behind_main d csiz p kind.Rgn = as_read nothing 94 (meaning segment_layout d (p + 2))
@@ -82,8 +85,15 @@ main_standing d csiz p = by_main d csiz p (marker_at d p)
 
 -- the component index of COC and QCC is tested behind the whole segment, at its marker
 abbrev pub in_image : ℕ → ℕ → Standing → Standing
-in_image csiz p (stands x) = cond (nat_lt (slice_index x.values 1) csiz) (stands x) (ends (refused (Validation (InvalidComponentMetadata p))))
+in_image csiz p (stands x) =
+    if nat_lt (slice_index x.values 1) csiz then stands x
+    else ends (refused (Validation (InvalidComponentMetadata p)))
 in_image csiz p (ends e) = ends e
+
+-- that test, and the place of the marker
+abbrev pub ComponentTested : ℕ → ℕ → ℕ → Result (Unit {0}) ValidationError → Type 0
+ComponentTested csiz k p (Ok u) = k < csiz
+ComponentTested csiz k p (Err e) = (csiz ≤ k) × (e ≡ InvalidComponentMetadata p)
 
 -- in a tile-part header; where packets of the main header are kept, PPT is refused before its bytes. SOD is read, EOC is left unread
 abbrev pub behind_part : List ℕ → ℕ → Bool → ℕ → Kind → Standing
@@ -91,11 +101,13 @@ behind_part d csiz packets p kind.Sot = unsupported p
 behind_part d csiz packets p kind.Sod = ends (by_marker (p + 2))
 behind_part d csiz packets p kind.Eoc = ends (by_marker p)
 behind_part d csiz packets p kind.Cod = as_read cod 82 (meaning cod_layout d (p + 2))
-behind_part d csiz packets p kind.Coc = in_image csiz p (as_read coc 83 (meaning (tile_coc_layout csiz) d (p + 2)))
+behind_part d csiz packets p kind.Coc = in_image csiz p (as_read coc 83 (meaning (coc_layout TilePart csiz) d (p + 2)))
 behind_part d csiz packets p kind.Qcd = as_read qcd 92 (meaning qcd_layout d (p + 2))
-behind_part d csiz packets p kind.Qcc = in_image csiz p (as_read qcc 93 (meaning (qcc_layout false csiz) d (p + 2)))
+behind_part d csiz packets p kind.Qcc = in_image csiz p (as_read qcc 93 (meaning (qcc_layout TilePart csiz) d (p + 2)))
 behind_part d csiz packets p kind.Ppm = unsupported p
-behind_part d csiz packets p kind.Ppt = cond packets (ends (refused (Tile (PpmPptConflict p)))) (as_read ppt 97 (meaning ppt_layout d (p + 2)))
+behind_part d csiz packets p kind.Ppt =
+    if packets then ends (refused (Tile (PpmPptConflict p)))
+    else as_read ppt 97 (meaning ppt_layout d (p + 2))
 behind_part d csiz packets p kind.Rgn = unsupported p
 behind_part d csiz packets p kind.Tlm = unsupported p
 behind_part d csiz packets p kind.Plt = as_read nothing 88 (meaning segment_layout d (p + 2))
@@ -107,7 +119,9 @@ behind_part d csiz packets p kind.Foreign = unsupported p
 -- read strictly, a missing marker is refused
 abbrev pub by_part : List ℕ → ℕ → Bool → Bool → ℕ → Option ℕ → Standing
 by_part d csiz packets strict p (Some m) = behind_part d csiz packets p (part_kind_of m)
-by_part d csiz packets strict p None = cond strict (ends (refused (Marker (Invalid p)))) (ends (by_none p))
+by_part d csiz packets strict p None =
+    if strict then ends (refused (Marker (Invalid p)))
+    else ends (by_none p)
 
 unfoldable pub part_standing : List ℕ → ℕ → Bool → Bool → ℕ → Standing
 part_standing d csiz packets strict p = by_part d csiz packets strict p (marker_at d p)
@@ -136,3 +150,7 @@ FoundAs s a (Ok (Stands g)) = (s ≡ stands (item_of s)) × ((item_of s).behind 
 FoundAs s a (Ok Ends) = s ≡ ends (by_marker a.place)
 FoundAs s a (Ok NoMarker) = s ≡ ends (by_none a.place)
 FoundAs s a (Err f) = s ≡ ends (refused f)
+
+-- the same, and the reader is still one of the same codestream
+abbrev pub Finds : Standing → BitReader → BitReader → Result Found DecodeError → Type 0
+Finds s b a r = FoundAs s a r × SameData b a

@@ -1,32 +1,35 @@
 -- A row among rows that stand one behind another.
-use Rattle.std.proofs.Common.{◌≡◌, ℕ, ◌+◌, List, [], ◌∷◌, ◌++◌, length, get_or, Ok, Err, Result, sym, refl, ap, ◌∙◌, subst, arith, length-append}
-use Rattle.std.proofs.lemmas.List.{get_or_append_left, get_or-append-add}
-use Rattle.packed.specs.Ppm.{Packet}
-use Rattle.settings.specs.declared.rows.PacketRow.{PacketRow}
-use Rattle.main_packets.specs.Packets.{rows_of}
+use Rattle.std.proofs.Common.{◌≡◌, ℕ, ◌+◌, ◌≤◌, List, ◌++◌, length, Some, None, Break, Continue, ControlFlow, refl, ap, arith, rules}
+use Rattle.std.proofs.lemmas.List.{places}
+use Rattle.std.proofs.lemmas.Option.{slice_get-map, gets}
+use Rattle.std.proofs.lemmas.Grind.{common_steps}
+use Rattle.std.specs.Prelude.{slice_get}
+use Rattle.std.proofs.lemmas.Iterator.{YieldsList}
+use Rattle.std.proofs.lemmas.Iterator.Consumers.{YieldsList-from_shown}
+use Rattle.packed.specs.Ppm.{Packet, Hands, packet_of, packets_left}
+use Rattle.packed.specs.declared.segment.SegmentReader.{SegmentReader}
+use Rattle.settings.specs.declared.rows.PackedRow.{PackedRow}
+use Rattle.main_packets.specs.Packets.{row_of, rows_of}
 use Rattle.main_packets.specs.Steps.{Nth}
 
-pub nth_before : (A B : List PacketRow) (n : ℕ) (x : PacketRow) → Nth A n (Ok x) → Nth (A ++ B) n (Ok x)
-nth_before A B n x h =
-    let lt = h.0 in
-    (simp length-append (omega arith), h.1 ∙ sym (get_or_append_left A B x n lt))
+pub nth_before : (A B : List PackedRow) (n : ℕ) (x : PackedRow) → Nth A n (Break x) → Nth (A ++ B) n (Break x)
+nth_before A B n x h = search (rules, places)
 
 pub nth_behind :
-    (A B : List PacketRow) (n m : ℕ) (r : Result PacketRow ℕ) → n ≡ length A + m → Nth B m r → Nth (A ++ B) n r
-nth_behind A B n m (Ok x) e h =
-    let lt = h.0 in (
-      simp length-append (omega arith),
-      h.1 ∙ (sym (get_or-append-add A B m x) ∙ ap (λ (i : ℕ). get_or (A ++ B) i x) (sym e)),
-    )
-nth_behind A B n m (Err o) e h = simp length-append (omega arith)
+    (A B : List PackedRow) (n m : ℕ) (r : ControlFlow PackedRow ℕ) → n ≡ length A + m → Nth B m r → Nth (A ++ B) n r
+nth_behind A B n m (Break x) e h = rw e (search (rules, places))
+nth_behind A B n m (Continue o) e h = search (rules, places)
 
--- the first packet, and no packet
-pub nth_first :
-    (z : ℕ) (ps qs : List Packet) (x : Packet) (n : ℕ) → ps ≡ x ∷ qs → n ≡ 0
-    → Nth (rows_of z ps) n (Ok (record { zppm = z; place = x.place; len = x.size }))
-nth_first z ps qs x n e h =
-    subst (λ (l : List Packet). Nth (rows_of z l) n (Ok (record { zppm = z; place = x.place; len = x.size }))) (sym e)
-    (omega arith, rw h refl)
+-- a reader hands out the packets that it has left
+pub packets_listed : (s : SegmentReader) → YieldsList (λ b r a. Hands b a r) packet_of s (packets_left s)
+packets_listed s =
+    YieldsList-from_shown (λ b r a. Hands b a r) packet_of packets_left (λ b a h. ap (λ (ps : List Packet). length ps) h.0) (λ b x a h. h.0) s
 
-pub nth_none : (z : ℕ) (ps : List Packet) (n : ℕ) → ps ≡ [] → Nth (rows_of z ps) n (Err n)
-nth_none z ps n e = subst (λ (l : List Packet). Nth (rows_of z l) n (Err n)) (sym e) (omega arith)
+-- a packet of a segment, and a number that is not below theirs
+pub nth_found : (z : ℕ) (ps : List Packet) (n : ℕ) (x : Packet) → slice_get ps n ≡ Some x → Nth (rows_of z ps) n (Break (row_of z x))
+nth_found z ps n x e =
+    let at : slice_get (rows_of z ps) n ≡ Some (row_of z x) = rw (slice_get-map (row_of z) ps n, e) refl in
+    grind (arith, common_steps, gets)
+
+pub nth_past : (ps : List Packet) (n : ℕ) → slice_get ps n ≡ None → length ps ≤ n
+nth_past ps n e = grind (arith, common_steps, gets)

@@ -1,3 +1,3 @@
-pub mod Lasts
+pub mod Said
 pub mod Runs
 pub mod Tests

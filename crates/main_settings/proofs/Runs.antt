@@ -1,40 +1,58 @@
 -- A main header read segment by segment, and a row that its settings are applied to.
-use Rattle.std.proofs.Common.{◌≡◌, ℕ, ◌<◌, ◌≤◌, ◌⊎◌, List, [], ◌∷◌, ◌++◌, length, Ok, sym, refl, ap, ◌∙◌, subst, inl, inr, append_assoc, append-nil, arith}
+use Rattle.std.proofs.Common.{◌≡◌, ℕ, ◌<◌, ◌≤◌, List, [], ◌∷◌, ◌++◌, length, Ok, Err, Result, sym, refl, ap, ◌∙◌, subst, append_assoc, append-nil, arith, Bor}
+use Rattle.faults.specs.declared.decode.DecodeError.{DecodeError}
+use Rattle.reader.specs.Reads.{bytes_of}
 use Rattle.reader.specs.declared.reader.BitReader.{BitReader}
-use Rattle.headers.specs.Standing.{Contents, Item, Ending, by_marker, by_none, stands, ends, item_of, main_standing, SetsAs, KeptOf, FoundAs}
-use Rattle.headers.specs.Grammar.{MainHeaded, SetBy, SettingsIn}
+use Rattle.headers.specs.Standing.{Contents, Item, Ending, by_marker, by_none, refused, ends, main_standing, SetsAs, KeptOf, Finds}
+use Rattle.headers.specs.Grammar.{SetBy, SettingsIn}
 use Rattle.headers.specs.declared.found.Found.{Found}
 use Rattle.headers.specs.declared.found.Found.TheVariants.{Stands, Ends, NoMarker}
 use Rattle.headers.specs.declared.found.Segment.{Segment}
 use Rattle.headers.specs.declared.found.Segment.TheVariants.{Sets, Ppm, Ppt, Skipped}
+use Rattle.headers.specs.declared.main_header.MainHeader.{MainHeader}
 use Rattle.headers.proofs.Onwards.{main_onward}
-use Rattle.settings.specs.Inheritance.{after, applied}
+use Rattle.headers.proofs.Paths.{Path, path_none, path_more, path_ends, found_stands}
+use Rattle.settings.specs.Inheritance.{after, applied, inherited}
 use Rattle.settings.specs.Rows.{BlankSettings}
 use Rattle.settings.specs.declared.inherit.Setting.{Setting}
 use Rattle.settings.specs.declared.inherit.Setting.TheVariants.{Cod, Coc, Qcd, Qcc}
 use Rattle.settings.specs.declared.rows.ComponentSettings.{ComponentSettings}
-use Rattle.main_settings.specs.Settled.{settings_of, RowApplied}
+use Rattle.settings.proofs.Applied.{main_settled}
+use Rattle.main_settings.specs.Components.{last_of, cod_in, coc_in, qcd_in, qcc_in}
+use Rattle.main_settings.specs.Settled.{ComponentSettled}
+use Rattle.main_settings.proofs.Said.{SaidBy, said_more, last_push}
 
--- the segments xs stand from p0 up to p: whatever header is behind them makes one with them; and their settings made the row s
-pub record Run (d : List ℕ) (csiz p0 p k : ℕ) (s : ComponentSettings) : Type 0 where
+-- the setting of a segment, if it has one
+abbrev pub settings_of : Segment → List Setting
+settings_of (Sets s) = s ∷ []
+settings_of (Ppm n) = []
+settings_of (Ppt z p n) = []
+settings_of Skipped = []
+
+-- the segments up to where the reader is, and the row s that their settings made
+pub record Run (h : MainHeader) (b : BitReader) (k : ℕ) (s : ComponentSettings) : Type 0 where
+  pub same : b.«data» ≡ h.codestream
   pub xs : List Item
+  pub path : Path (main_standing h.codestream.now h.csiz) h.segments xs b.place
   pub ss : List Setting
-  pub blank : ComponentSettings
-  pub onward : (ys : List Item) (e : Ending) → MainHeaded d csiz p ys e → MainHeaded d csiz p0 (xs ++ ys) e
   pub settings : SettingsIn xs ss
+  pub blank : ComponentSettings
   pub is_blank : BlankSettings blank
   pub made : s ≡ applied k blank ss
+  pub said : SaidBy (last_of (coc_in k) xs) (last_of cod_in xs) (last_of (qcc_in k) xs) (last_of qcd_in xs) s
 
-pub run_none : (d : List ℕ) (csiz p q k : ℕ) (b : ComponentSettings) → q ≡ p → BlankSettings b → Run d csiz p q k b
-run_none d csiz p q k b at blank =
+pub run_none : (h : MainHeader) (b : BitReader) (k : ℕ) (s : ComponentSettings) → b.«data» ≡ h.codestream → b.place ≡ h.segments → BlankSettings s → Run h b k s
+run_none h b k s same at blank =
     record {
+      same = same;
       xs = [];
+      path = rw at (path_none (main_standing h.codestream.now h.csiz) h.segments);
       ss = [];
-      blank = b;
-      onward = λ ys e h. subst (λ (o : ℕ). MainHeaded d csiz o ys e) at h;
       settings = refl;
+      blank = s;
       is_blank = blank;
       made = refl;
+      said = record { levels = blank.parameters.levels; quantization = blank.quantization; own_coc = blank.coc; own_qcc = blank.qcc };
     }
 
 settings_push :
@@ -64,59 +82,75 @@ kept_by (Ppm n) x h = rw h.0 refl
 kept_by (Ppt z p n) x h = rw h.0 refl
 kept_by Skipped x h = rw h refl
 
+said_push :
+    (k : ℕ) (g : Segment) (x : Item) (xs : List Item) (s : ComponentSettings)
+    → SaidBy (last_of (coc_in k) xs) (last_of cod_in xs) (last_of (qcc_in k) xs) (last_of qcd_in xs) s → KeptOf g x
+    → SaidBy (last_of (coc_in k) (xs ++ x ∷ [])) (last_of cod_in (xs ++ x ∷ [])) (last_of (qcc_in k) (xs ++ x ∷ [])) (last_of qcd_in (xs ++ x ∷ []))
+    (applied k s (settings_of g))
+said_push k (Sets o) x xs s r h =
+    rw (last_push (coc_in k) xs x, last_push cod_in xs x, last_push (qcc_in k) xs x, last_push qcd_in xs x)
+    (said_more k o x.contents x.values _ _ _ _ s r h)
+said_push k (Ppm n) x xs s r h =
+    rw (last_push (coc_in k) xs x, last_push cod_in xs x, last_push (qcc_in k) xs x, last_push qcd_in xs x, h.0) r
+said_push k (Ppt z p n) x xs s r h =
+    rw (last_push (coc_in k) xs x, last_push cod_in xs x, last_push (qcc_in k) xs x, last_push qcd_in xs x, h.0) r
+said_push k Skipped x xs s r h =
+    rw (last_push (coc_in k) xs x, last_push cod_in xs x, last_push (qcc_in k) xs x, last_push qcd_in xs x, h) r
+
 -- one segment more, and how far it goes
-run_more :
-    (d d1 : List ℕ) (csiz p0 p q k : ℕ) (s t : ComponentSettings) (g : Segment) → Run d csiz p0 p k s → d1 ≡ d
-    → main_standing d1 csiz p ≡ stands (item_of (main_standing d1 csiz p)) → (item_of (main_standing d1 csiz p)).behind ≡ q
-    → KeptOf g (item_of (main_standing d1 csiz p)) → t ≡ applied k s (settings_of g) → Run d csiz p0 q k t × (p < q) × (q ≤ length d)
-run_more d d1 csiz p0 p q k s t g r same is at kept e =
-    let x : Item = item_of (main_standing d1 csiz p) in
-    let here : main_standing d csiz p ≡ stands x = subst (λ (y : List ℕ). main_standing y csiz p ≡ stands x) same is in
-    let on = main_onward d csiz p x here in (
+pub run_more :
+    (h : MainHeader) (b a : BitReader) (k : ℕ) (s t : ComponentSettings) (f : Found) (g : Segment) → Run h b k s
+    → Finds (main_standing (bytes_of b) h.csiz b.place) b a (Ok f) → f ≡ Stands g → t ≡ applied k s (settings_of g)
+    → Run h a k t × (b.place < a.place) × (a.place ≤ length h.codestream.now)
+run_more h b a k s t f g r found is e =
+    let d : List ℕ = h.codestream.now in
+    let x = found_stands (main_standing (bytes_of b) h.csiz b.place) (main_standing d h.csiz b.place) f g a
+    (ap (λ (y : Bor (List ℕ)). main_standing y.now h.csiz b.place) r.same) found.0 is in
+    let on = main_onward d h.csiz b.place x.0 x.1 in (
       record {
-        xs = r.xs ++ x ∷ [];
+        same = found.1 ∙ r.same;
+        xs = r.xs ++ x.0 ∷ [];
+        path = subst (λ (o : ℕ). Path (main_standing d h.csiz) h.segments (r.xs ++ x.0 ∷ []) o) x.2 (path_more (main_standing d h.csiz) h.segments b.place r.xs x.0 r.path x.1);
         ss = r.ss ++ settings_of g;
+        settings = settings_push r.xs x.0 r.ss (settings_of g) r.settings (kept_by g x.0 x.3);
         blank = r.blank;
-        onward = λ ys f h. rw append_assoc (r.onward (x ∷ ys) f (here, subst (λ (o : ℕ). MainHeaded d csiz o ys f) (sym at) h));
-        settings = settings_push r.xs x r.ss (settings_of g) r.settings (kept_by g x kept);
         is_blank = r.is_blank;
         made = e ∙ ap (λ (u : ComponentSettings). applied k u (settings_of g)) r.made ∙ sym (applied_push k r.blank r.ss (settings_of g));
+        said = rw e (said_push k g x.0 r.xs s r.said x.3);
       },
-      omega (arith, on.0, at),
-      omega (arith, on.1, at),
+      omega (arith, on.0, x.2),
+      omega (arith, on.1, x.2),
     )
 
--- where the header ends behind the run
+-- a segment that sets nothing
+pub unset : (g : Segment) (k : ℕ) (s : ComponentSettings) → ((o : Setting) → g ≡ Sets o → ⊥) → s ≡ applied k s (settings_of g)
+unset (Sets o) k s none = absurd (none o refl)
+unset (Ppm n) k s none = refl
+unset (Ppt z p n) k s none = refl
+unset Skipped k s none = refl
+
+-- where no segment was found, the header ends
+ends_by : (b a : BitReader) (csiz : ℕ) (f : Result Found DecodeError) → Finds (main_standing (bytes_of b) csiz b.place) b a f
+    → ((g : Segment) → f ≡ Ok (Stands g) → ⊥) → (e : Ending) × (main_standing (bytes_of b) csiz b.place ≡ ends e)
+ends_by b a csiz (Ok (Stands g)) h none = absurd (none g refl)
+ends_by b a csiz (Ok Ends) h none = (by_marker a.place, h.0)
+ends_by b a csiz (Ok NoMarker) h none = (by_none a.place, h.0)
+ends_by b a csiz (Err f) h none = (refused f, h.0)
+
 pub run_ends :
-    (d d1 : List ℕ) (csiz p0 p k : ℕ) (s : ComponentSettings) (e : Ending) → Run d csiz p0 p k s → d1 ≡ d → main_standing d1 csiz p ≡ ends e
-    → RowApplied d csiz p0 k s
-run_ends d d1 csiz p0 p k s e r same is =
-    let here : main_standing d csiz p ≡ ends e = subst (λ (y : List ℕ). main_standing y csiz p ≡ ends e) same is in
+    (h : MainHeader) (b a : BitReader) (k : ℕ) (s t : ComponentSettings) (f : Result Found DecodeError) → Run h b k s
+    → Finds (main_standing (bytes_of b) h.csiz b.place) b a f → ((g : Segment) → f ≡ Ok (Stands g) → ⊥) → t ≡ inherited s
+    → ComponentSettled h.codestream.now h.csiz h.segments k t
+run_ends h b a k s t f r found none is =
+    let d : List ℕ = h.codestream.now in
+    let e = ends_by b a h.csiz f found none in
     record {
       xs = r.xs;
-      e = e;
+      e = e.0;
       ss = r.ss;
-      blank = r.blank;
-      headed = subst (λ (ys : List Item). MainHeaded d csiz p0 ys e) (append-nil r.xs) (r.onward [] e here);
+      headed = path_ends (main_standing d h.csiz) h.segments b.place r.xs e.0 r.path (ap (λ (y : Bor (List ℕ)). main_standing y.now h.csiz b.place) (sym r.same) ∙ e.1);
       settings = r.settings;
-      is_blank = r.is_blank;
-      made = r.made;
+      settled = main_settled k r.blank s t r.ss r.is_blank r.made is;
+      levels = rw is r.said.levels;
+      quantization = rw is r.said.quantization;
     }
-
--- by the last marker, or for want of a marker
-pub run_over :
-    (d d1 : List ℕ) (csiz p0 p k : ℕ) (s : ComponentSettings) (a : BitReader) (f : Found) → Run d csiz p0 p k s → d1 ≡ d
-    → FoundAs (main_standing d1 csiz p) a (Ok f) → (f ≡ Ends) ⊎ (f ≡ NoMarker) → RowApplied d csiz p0 k s
-run_over d d1 csiz p0 p k s a f r same h (inl is) =
-    run_ends d d1 csiz p0 p k s (by_marker a.place) r same (subst (λ (g : Found). FoundAs (main_standing d1 csiz p) a (Ok g)) is h)
-run_over d d1 csiz p0 p k s a f r same h (inr is) =
-    run_ends d d1 csiz p0 p k s (by_none a.place) r same (subst (λ (g : Found). FoundAs (main_standing d1 csiz p) a (Ok g)) is h)
-
--- one segment more, as it was found
-pub run_found :
-    (d d1 : List ℕ) (csiz p0 p k : ℕ) (s t : ComponentSettings) (a : BitReader) (f : Found) (g : Segment) → Run d csiz p0 p k s → d1 ≡ d
-    → FoundAs (main_standing d1 csiz p) a (Ok f) → f ≡ Stands g → t ≡ applied k s (settings_of g)
-    → Run d csiz p0 a.place k t × (p < a.place) × (a.place ≤ length d)
-run_found d d1 csiz p0 p k s t a f g r same h is e =
-    let there = subst (λ (y : Found). FoundAs (main_standing d1 csiz p) a (Ok y)) is h in
-    run_more d d1 csiz p0 p a.place k s t g r same there.0 there.1 there.2 e

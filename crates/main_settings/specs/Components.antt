@@ -1,18 +1,18 @@
 -- What the segments of a main header say of a component, by their values (T.800 A.6): the last COC of the component, else the last COD; the
 -- last QCC of the component, else the last QCD.
-use Rattle.std.specs.Prelude.{◌≡◌, ℕ, zero, suc, ◌/◌, cond, List, [], ◌∷◌, length, drop, Some, None, Ok, Err, Option, Result, ◌==◌, slice_index}
+use Rattle.std.specs.Prelude.{if◌then◌else◌, ◌≡◌, ℕ, zero, suc, ◌/◌, List, [], ◌∷◌, length, drop, Some, None, Ok, Err, Option, Result, ◌==◌, slice_index}
+use Rattle.std.specs.Option.{option_or}
 use Rattle.faults.specs.declared.decode.DecodeError.{DecodeError}
 use Rattle.headers.specs.Standing.{Contents, cod, coc, qcd, qcc, ppm, ppt, nothing, Item}
 use Rattle.quantization.specs.Quantization.{kept, quantization_style_of}
 use Rattle.quantization.specs.declared.info.QuantizationInfo.{QuantizationInfo}
-use Rattle.settings.specs.Inheritance.{or_else}
 use Rattle.settings.specs.Rows.{blank_quantization}
 use Rattle.settings.specs.StepSizes.{validated}
 
 -- the values of the last segment that f takes
 abbrev pub last_of : (Item → Option (List ℕ)) → List Item → Option (List ℕ)
 last_of f [] = None
-last_of f (x ∷ xs) = or_else (last_of f xs) (f x)
+last_of f (x ∷ xs) = option_or (last_of f xs) (f x)
 
 abbrev pub of_cod : Contents → List ℕ → Option (List ℕ)
 of_cod cod vs = Some vs
@@ -25,7 +25,7 @@ of_cod nothing vs = None
 
 abbrev pub of_coc : ℕ → Contents → List ℕ → Option (List ℕ)
 of_coc k cod vs = None
-of_coc k coc vs = cond (slice_index vs 1 == k) (Some vs) None
+of_coc k coc vs = if slice_index vs 1 == k then Some vs else None
 of_coc k qcd vs = None
 of_coc k qcc vs = None
 of_coc k ppm vs = None
@@ -45,7 +45,7 @@ abbrev pub of_qcc : ℕ → Contents → List ℕ → Option (List ℕ)
 of_qcc k cod vs = None
 of_qcc k coc vs = None
 of_qcc k qcd vs = None
-of_qcc k qcc vs = cond (slice_index vs 1 == k) (Some vs) None
+of_qcc k qcc vs = if slice_index vs 1 == k then Some vs else None
 of_qcc k ppm vs = None
 of_qcc k ppt vs = None
 of_qcc k nothing vs = None
@@ -96,7 +96,7 @@ refusal_of k place xs = refusal (validated (quantization_in k xs) (levels_in k x
 -- why the first component that is refused is, among n from k on
 abbrev pub refusal_from : ℕ → ℕ → ℕ → List Item → Option DecodeError
 refusal_from zero k place xs = None
-refusal_from (suc n) k place xs = or_else (refusal_of k place xs) (refusal_from n (suc k) place xs)
+refusal_from (suc n) k place xs = option_or (refusal_of k place xs) (refusal_from n (suc k) place xs)
 
 -- among all csiz components
 abbrev pub component_refusal : ℕ → ℕ → List Item → Option DecodeError

@@ -1,34 +1,12 @@
 -- What a main header makes of a component, and of all of them.
-use Rattle.std.specs.Prelude.{◌≡◌, ℕ, List, [], ◌∷◌, Result}
+use Rattle.std.specs.Prelude.{◌≡◌, ℕ, List, Result}
 use Rattle.faults.specs.declared.decode.DecodeError.{DecodeError}
 use Rattle.headers.specs.Standing.{Item, Ending}
 use Rattle.headers.specs.Grammar.{MainHeaded, SettingsIn}
-use Rattle.headers.specs.declared.found.Segment.{Segment}
-use Rattle.headers.specs.declared.found.Segment.TheVariants.{Sets, Ppm, Ppt, Skipped}
-use Rattle.settings.specs.Inheritance.{MainSettled, applied}
-use Rattle.settings.specs.StepSizes.{validated}
-use Rattle.settings.specs.Rows.{BlankSettings}
+use Rattle.settings.specs.Inheritance.{MainSettled}
 use Rattle.settings.specs.declared.inherit.Setting.{Setting}
 use Rattle.settings.specs.declared.rows.ComponentSettings.{ComponentSettings}
 use Rattle.main_settings.specs.Components.{levels_in, quantization_in, component_refusal, Tested}
-
--- the setting of a segment, if it has one
-abbrev pub settings_of : Segment → List Setting
-settings_of (Sets s) = s ∷ []
-settings_of (Ppm n) = []
-settings_of (Ppt z p n) = []
-settings_of Skipped = []
-
--- the settings ss of the header from p on, applied to a blank row of component k
-pub record RowApplied (d : List ℕ) (csiz p k : ℕ) (t : ComponentSettings) : Type 0 where
-  pub xs : List Item
-  pub e : Ending
-  pub ss : List Setting
-  pub blank : ComponentSettings
-  pub headed : MainHeaded d csiz p xs e
-  pub settings : SettingsIn xs ss
-  pub is_blank : BlankSettings blank
-  pub made : t ≡ applied k blank ss
 
 -- what the header from p on, however it ends, makes of component k: t
 pub record ComponentSettled (d : List ℕ) (csiz p k : ℕ) (t : ComponentSettings) : Type 0 where
@@ -40,11 +18,6 @@ pub record ComponentSettled (d : List ℕ) (csiz p k : ℕ) (t : ComponentSettin
   pub settled : MainSettled k ss t
   pub levels : t.parameters.levels ≡ levels_in k xs
   pub quantization : t.quantization ≡ quantization_in k xs
-
--- whether component k has the step sizes that it needs
-abbrev pub ComponentTested : List ℕ → ℕ → ℕ → ℕ → ℕ → Result (Unit {0}) DecodeError → Type 0
-ComponentTested d csiz p k place r =
-    (t : ComponentSettings) × ComponentSettled d csiz p k t × (r ≡ validated t.quantization t.parameters.levels place)
 
 -- whether each of csiz components has the step sizes that it needs, by the header from p on
 pub record ComponentsTested (d : List ℕ) (csiz p place : ℕ) (r : Result (Unit {0}) DecodeError) : Type 0 where

@@ -1,5 +1,5 @@
 -- A main header (T.800 A.3, Table A.3): SIZ, the segments behind it, and the SOT that ends it.
-use Rattle.std.specs.Prelude.{◌≡◌, ℕ, ◌+◌, ◌*◌, ◌<◌, Bool, true, false, cond, ◌&&◌, List, is_some, Some, None, Ok, Err, Option, Result, nat_le}
+use Rattle.std.specs.Prelude.{if◌then◌else◌, ◌≡◌, ℕ, ◌+◌, ◌*◌, ◌<◌, Bool, true, false, ◌&&◌, List, is_some, Some, None, Ok, Err, Option, Result, nat_le}
 use Rattle.faults.specs.declared.decode.DecodeError.{DecodeError}
 use Rattle.faults.specs.declared.decode.DecodeError.TheVariants.{Marker, Book}
 use Rattle.faults.specs.declared.decode.MarkerError.TheVariants.{Invalid, Missing}
@@ -47,7 +47,7 @@ ended s b xs (refused f) = Err f
 
 -- packets that pass the room are refused at their segment, before anything behind it
 abbrev pub concluded : ℕ → Siz → ℕ → List Item → Ending → Result Header DecodeError
-concluded room s b xs e = cond (nat_le (packets_in xs) room) (ended s b xs e) (Err too_short)
+concluded room s b xs e = if nat_le (packets_in xs) room then ended s b xs e else Err too_short
 
 abbrev pub WithRoom : List ℕ → ℕ → Siz → ℕ → Bool → Result Header DecodeError → Type 0
 WithRoom d room s b true o = (xs : List Item) × (e : Ending) × MainHeaded d s.csiz b xs e × (o ≡ concluded room s b xs e)

@@ -6,6 +6,7 @@ use crate::header_segments::main_segments;
 use crate::passed::Passed;
 use crate::room::{MainSurvey, Room};
 use faults::decode::{BookError, DecodeError, MarkerError};
+use headers::main_header::MainHeader;
 use layouts::markers::{COD, QCD};
 use main_settings::validate_components;
 use reader::reader::BitReader;
@@ -23,22 +24,17 @@ impl Room {
 }
 
 // What is tested at the SOT that ends the header.
-fn test_at_sot(
-    codestream: &[u8],
-    segments: usize,
-    csiz: u16,
-    passed: Passed,
-) -> Result<(), DecodeError>
-    ensures { SotTested codestream.now csiz segments passed result }
+fn test_at_sot(header: MainHeader<'_>, passed: Passed) -> Result<(), DecodeError>
+    ensures { SotTested header.entry.codestream.now header.entry.csiz header.entry.segments passed result }
 {
     let place = passed.place;
     if !passed.cod {
-        return Err(DecodeError::Marker(MarkerError::Missing { code: COD, place }));
+        return Err(MarkerError::Missing { code: COD, place }.into());
     }
     if !passed.qcd {
-        return Err(DecodeError::Marker(MarkerError::Missing { code: QCD, place }));
+        return Err(MarkerError::Missing { code: QCD, place }.into());
     }
-    validate_components(codestream, segments, csiz, place)
+    validate_components(header, place)
 }
 
 /// Surveys the main header whose SIZ stands at `place`, for tables that have this room: all that can be refused, in its order, and what an
@@ -51,16 +47,20 @@ pub fn survey_main(codestream: &[u8], place: usize, room: Room) -> Result<MainSu
     let size = size_marker(&mut reader)?;
     let tiles = size.num_tiles();
     if !room.holds(size.csiz, tiles) {
-        return Err(DecodeError::Book(BookError::TableTooShort));
+        return Err(BookError::TableTooShort.into());
     }
-    let segments = reader.offset();
-    let passed = main_segments(&mut reader, size.csiz, room.packets)?;
-    test_at_sot(codestream, segments, size.csiz, passed)?;
+    let header = MainHeader {
+        codestream,
+        segments: reader.offset(),
+        csiz: size.csiz,
+    };
+    let passed = main_segments(header, room.packets)?;
+    test_at_sot(header, passed)?;
     Ok(MainSurvey {
         size,
         tiles,
         packets: passed.packets,
-        segments,
+        segments: header.segments,
         place: passed.place,
     })
 }

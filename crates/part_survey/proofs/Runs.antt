@@ -1,5 +1,5 @@
 -- How far a tile-part header is read.
-use Rattle.std.proofs.Common.{◌≡◌, ℕ, ◌+◌, ◌<◌, ◌≤◌, Bool, List, [], ◌∷◌, ◌++◌, length, Ok, Result, sym, refl, ap, ◌∙◌, subst, append_assoc, append-nil, arith, lit≤}
+use Rattle.std.proofs.Common.{◌≡◌, ℕ, ◌+◌, ◌<◌, ◌≤◌, Bool, List, [], ◌∷◌, ◌++◌, length, Some, None, Ok, Result, sym, refl, ap, ◌∙◌, subst, append_assoc, append-nil, arith, lit≤}
 use Rattle.faults.specs.declared.decode.DecodeError.{DecodeError}
 use Rattle.reader.specs.declared.reader.BitReader.{BitReader}
 use Rattle.settings.specs.declared.inherit.Setting.TheVariants.{Cod, Coc, Qcd, Qcc}
@@ -11,7 +11,6 @@ use Rattle.headers.specs.Standing.{Item, Ending, by_marker, by_none, stands, end
 use Rattle.headers.specs.Grammar.{PartHeaded, headers_by, headers_in}
 use Rattle.headers.proofs.Onwards.{part_onward}
 use Rattle.part_survey.specs.declared.survey.HeaderEnd.{HeaderEnd}
-use Rattle.part_survey.specs.declared.survey.HeaderEnd.TheVariants.{Closed, CutShort}
 use Rattle.part_survey.specs.Ends.{ppt_count_of, ended, HeaderEnds}
 
 -- segments, n of them PPT, stand from p0 up to p: whatever header is behind them makes one with them
@@ -83,17 +82,17 @@ run_ends d d1 csiz packets strict p0 p n e a r same s is =
 pub run_closed :
     (d d1 : List ℕ) (csiz : ℕ) (packets strict : Bool) (p0 p n q : ℕ) (a : BitReader) (f : Found)
     → Run d csiz packets strict p0 p n → d1 ≡ d → FoundAs (part_standing d1 csiz packets strict p) a (Ok f) → f ≡ Ends → q ≡ a.place
-    → HeaderEnds d csiz packets strict p0 (Ok (Closed q n))
+    → HeaderEnds d csiz packets strict p0 (Ok (record { place = q; headers = Some n }))
 run_closed d d1 csiz packets strict p0 p n q a f r same found is at =
     let t : FoundAs (part_standing d1 csiz packets strict p) a (Ok Ends) =
     subst (λ (y : Found). FoundAs (part_standing d1 csiz packets strict p) a (Ok y)) is found in
-    run_ends d d1 csiz packets strict p0 p n (by_marker a.place) (Ok (Closed q n)) r same t (rw at refl)
+    run_ends d d1 csiz packets strict p0 p n (by_marker a.place) (Ok (record { place = q; headers = Some n })) r same t (rw at refl)
 
 pub run_cut :
     (d d1 : List ℕ) (csiz : ℕ) (packets strict : Bool) (p0 p n q : ℕ) (a : BitReader) (f : Found)
     → Run d csiz packets strict p0 p n → d1 ≡ d → FoundAs (part_standing d1 csiz packets strict p) a (Ok f) → f ≡ NoMarker → q ≡ a.place
-    → HeaderEnds d csiz packets strict p0 (Ok (CutShort q))
+    → HeaderEnds d csiz packets strict p0 (Ok (record { place = q; headers = None }))
 run_cut d d1 csiz packets strict p0 p n q a f r same found is at =
     let t : FoundAs (part_standing d1 csiz packets strict p) a (Ok NoMarker) =
     subst (λ (y : Found). FoundAs (part_standing d1 csiz packets strict p) a (Ok y)) is found in
-    run_ends d d1 csiz packets strict p0 p n (by_none a.place) (Ok (CutShort q)) r same t (rw at refl)
+    run_ends d d1 csiz packets strict p0 p n (by_none a.place) (Ok (record { place = q; headers = None })) r same t (rw at refl)

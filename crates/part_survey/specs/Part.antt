@@ -1,5 +1,5 @@
 -- A tile-part (T.800 A.4.2): its SOT segment, the segments of its header, and its body.
-use Rattle.std.specs.Prelude.{◌≡◌, ℕ, ◌+◌, ◌-◌, Bool, cond, ◌&&◌, List, length, Some, None, Ok, Err, Option, Result, ◌==◌, nat_le, nat_lt, slice_index}
+use Rattle.std.specs.Prelude.{◌≡◌, ℕ, ◌+◌, ◌-◌, Bool, if◌then◌else◌, ◌&&◌, List, length, Some, None, Ok, Err, Option, Result, ◌==◌, nat_le, nat_lt, slice_index}
 use Rattle.faults.specs.declared.decode.DecodeError.{DecodeError}
 use Rattle.faults.specs.declared.decode.DecodeError.TheVariants.{Marker, Tile}
 use Rattle.faults.specs.declared.decode.MarkerError.TheVariants as marker
@@ -10,7 +10,6 @@ use Rattle.packed.specs.Sot.{sot_table}
 use Rattle.packed.specs.declared.sot.TilePartHeader.{TilePartHeader}
 use Rattle.headers.specs.Standing.{Item, Ending, by_marker, by_none, refused}
 use Rattle.headers.specs.Grammar.{PartHeaded, headers_in}
-use Rattle.part_survey.specs.declared.survey.TilePartEnd.TheVariants as end
 use Rattle.part_survey.specs.declared.survey.TilePartSurvey.{TilePartSurvey}
 
 -- what SOT says, by the values of its fields
@@ -20,17 +19,17 @@ sot_of vs = record { isot = slice_index vs 1; psot = slice_index vs 2; tpsot = s
 -- Isot is below the number of tiles; Psot is 0 or at least 12, the size of SOT with its segment
 abbrev pub admitted : ℕ → ℕ → TilePartHeader → Result TilePartHeader DecodeError
 admitted p tiles s =
-    cond
-    (nat_lt s.isot tiles)
-    (cond (nat_lt 0 s.psot && nat_lt s.psot 12) (Err (Tile (tile.Invalid p))) (Ok s))
-    (Err (Tile (tile.InvalidIndex p)))
+    if nat_lt s.isot tiles then (if nat_lt 0 s.psot && nat_lt s.psot 12 then Err (Tile (tile.Invalid p)) else Ok s)
+    else Err (Tile (tile.InvalidIndex p))
 
 abbrev pub start_from : ℕ → ℕ → Reading → Result TilePartHeader DecodeError
 start_from p tiles (read vs q) = admitted p tiles (sot_of vs)
 start_from p tiles (failed e q) = Err (Marker (marker.ParseFailure 144 e))
 
 abbrev pub start_by : List ℕ → ℕ → ℕ → Option ℕ → Result TilePartHeader DecodeError
-start_by d p tiles (Some m) = cond (m == 144) (start_from p tiles (meaning (fields sot_table) d (p + 2))) (Err (Marker (marker.Expected 144 p)))
+start_by d p tiles (Some m) =
+    if m == 144 then start_from p tiles (meaning (fields sot_table) d (p + 2))
+    else Err (Marker (marker.Expected 144 p))
 start_by d p tiles None = Err (Marker (marker.Invalid p))
 
 -- the start of the tile-part at p, in a picture of so many tiles
@@ -43,22 +42,27 @@ closed d b = nat_le (b + 2) (length d) && (byte_at d (length d - 2) == 255 && by
 
 -- how many bytes follow the SOT segment that ends at b: Psot counts from the SOT marker on; where it is 0, all that is left but a last EOC
 abbrev pub follow : List ℕ → ℕ → ℕ → ℕ
-follow d b psot = cond (psot == 0) (cond (closed d b) (length d - b - 2) (length d - b)) (psot - 12)
+follow d b psot =
+    if psot == 0 then (if closed d b then length d - b - 2 else length d - b)
+    else psot - 12
 
 abbrev pub is_cut_short : TilePartHeader → ℕ → TilePartSurvey
-is_cut_short s q = record { tile = s.isot; tpsot = s.tpsot; place = q; end = end.CutShort }
+is_cut_short s q = record { tile = s.isot; tpsot = s.tpsot; place = q; body = None }
+
+-- its header has n PPT segments and ends at q, its body at e
+abbrev pub is_whole : TilePartHeader → ℕ → ℕ → ℕ → TilePartSurvey
+is_whole s q e n =
+    record { tile = s.isot; tpsot = s.tpsot; place = e; body = Some (record { place = q; len = e - q; headers = n }) }
 
 -- the tile-part at p, whose header has n PPT segments and ends at q, and of which m bytes follow the SOT segment: a header that is longer is
 -- refused or cut short, and a body beyond the codestream refused
 abbrev pub bounded : List ℕ → ℕ → Bool → TilePartHeader → ℕ → ℕ → ℕ → Result TilePartSurvey DecodeError
 bounded d p strict s n q m =
-    cond
-    (nat_le q (p + 12 + m))
-    (cond
-    (nat_le (p + 12 + m) (length d))
-    (Ok (record { tile = s.isot; tpsot = s.tpsot; place = p + 12 + m; end = end.Whole q (p + 12 + m - q) n }))
-    (Err (Tile (tile.Invalid p))))
-    (cond strict (Err (Tile (tile.Invalid p))) (Ok (is_cut_short s q)))
+    if nat_le q (p + 12 + m) then
+    (if nat_le (p + 12 + m) (length d) then Ok (is_whole s q (p + 12 + m) n)
+    else Err (Tile (tile.Invalid p)))
+    else if strict then Err (Tile (tile.Invalid p))
+    else Ok (is_cut_short s q)
 
 -- what a tile-part comes to, by its start, the number of its PPT segments and the end of its header
 abbrev pub surveyed : List ℕ → ℕ → Bool → TilePartHeader → ℕ → Ending → Result TilePartSurvey DecodeError

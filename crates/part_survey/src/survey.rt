@@ -1,40 +1,37 @@
 ghost use Rattle.std.specs.Prelude.{◌≡◌, ◌+◌, ◌≤◌, length, OnOk};
 ghost use Rattle.part_survey.specs.Ends.{HeaderEnds, ppt_count_of};
 ghost use Rattle.part_survey.specs.Part.{Surveyed, bounded, is_cut_short, follow, start_of};
-ghost use Rattle.reader.specs.Reads.{bytes_of};
+ghost use Rattle.reader.specs.Reads.{SameData, bytes_of};
 
 use faults::decode::{DecodeError, MarkerError, TileError};
 use headers::found::{Found, Segment};
-use headers::part_header::next_part;
+use headers::part_header::{PartRules, next_part};
 use layouts::markers::{EOC, SOT};
 use packed::sot::{TilePartHeader, sot_marker};
 use reader::reader::BitReader;
 
-/// A tile-part: the tile that it belongs to, its index in that tile, the place reached, and how it ends.
+/// A tile-part: the tile that it belongs to, its index in that tile, the place reached, and its body; none where its header is cut short.
 #[derive(Clone, Copy, Debug, PartialEq, Eq)]
 pub struct TilePartSurvey {
     pub tile: u16,
     pub tpsot: u8,
     pub place: usize,
-    pub end: TilePartEnd,
+    pub body: Option<TilePartBody>,
 }
 
-/// A tile-part is whole, with a body of `len` bytes from the place `body` on and `headers` PPT segments, or its header is cut short.
+/// The body of a tile-part, `len` bytes from `place` on, behind a header with `headers` PPT segments.
 #[derive(Clone, Copy, Debug, PartialEq, Eq)]
-pub enum TilePartEnd {
-    Whole {
-        body: usize,
-        len: usize,
-        headers: usize,
-    },
-    CutShort,
+pub struct TilePartBody {
+    pub place: usize,
+    pub len: usize,
+    pub headers: usize,
 }
 
-// How a header ends, with the place where reading stops: by its last marker, with the number of its PPT segments, or for want of a marker.
+// Where a header ends, and the number of its PPT segments; none where it ends for want of a marker.
 #[derive(Clone, Copy)]
-enum HeaderEnd {
-    Closed { place: usize, headers: usize },
-    CutShort { place: usize },
+struct HeaderEnd {
+    place: usize,
+    headers: Option<usize>,
 }
 
 // The size of SOT with its segment.
@@ -43,19 +40,19 @@ const SOT_SIZE: usize = 12;
 // Reads SOT and its segment where the reader stands.
 fn tile_part_start(reader: &mut BitReader<'_>, tiles: u32) -> Result<TilePartHeader, DecodeError>
     ensures start { result ≡ start_of (bytes_of reader.old) reader.old.place tiles }
-    ensures same { reader.new.«data» ≡ reader.old.«data» }
+    ensures same { SameData reader.old reader.new }
     ensures behind { OnOk result ((reader.new.place ≡ reader.old.place + 12) × (reader.new.place ≤ length (bytes_of reader.old))) }
 {
     let place = reader.offset();
     if reader.read_marker()? != SOT {
-        return Err(DecodeError::Marker(MarkerError::Expected { code: SOT, place }));
+        return Err(MarkerError::Expected { code: SOT, place }.into());
     }
     let start = sot_marker(reader)?;
     if u32::from(start.isot) >= tiles {
-        return Err(DecodeError::Tile(TileError::InvalidIndex { place }));
+        return Err(TileError::InvalidIndex { place }.into());
     }
     if start.psot > 0 && (start.psot as usize) < SOT_SIZE {
-        return Err(DecodeError::Tile(TileError::Invalid { place }));
+        return Err(TileError::Invalid { place }.into());
     }
     Ok(start)
 }
@@ -71,29 +68,24 @@ fn ppt_count(segment: Segment) -> usize
 }
 
 // Reads a header from behind its SOT segment to its end.
-fn header_end(
-    reader: &mut BitReader<'_>,
-    csiz: u16,
-    packets: bool,
-    strict: bool,
-) -> Result<HeaderEnd, DecodeError>
+fn header_end(reader: &mut BitReader<'_>, rules: PartRules) -> Result<HeaderEnd, DecodeError>
     requires { reader.old.place ≤ length (bytes_of reader.old) }
-    ensures { HeaderEnds (bytes_of reader.old) csiz packets strict reader.old.place result }
+    ensures { HeaderEnds (bytes_of reader.old) rules.csiz rules.packets rules.strict reader.old.place result }
 {
     let mut headers: usize = 0;
     loop {
-        let found = next_part(reader, csiz, packets, strict)?;
-        match found {
+        match next_part(reader, rules)? {
             Found::Stands(segment) => headers += ppt_count(segment),
             Found::Ends => {
-                return Ok(HeaderEnd::Closed {
+                return Ok(HeaderEnd {
                     place: reader.offset(),
-                    headers,
+                    headers: Some(headers),
                 });
             }
             Found::NoMarker => {
-                return Ok(HeaderEnd::CutShort {
+                return Ok(HeaderEnd {
                     place: reader.offset(),
+                    headers: None,
                 });
             }
         }
@@ -124,7 +116,7 @@ fn cut_short(start: TilePartHeader, place: usize) -> TilePartSurvey
         tile: start.isot,
         tpsot: start.tpsot,
         place,
-        end: TilePartEnd::CutShort,
+        body: None,
     }
 }
 
@@ -144,47 +136,42 @@ fn tile_part_end(
     let rest = following(codestream, behind, start.psot);
     if body.saturating_sub(behind) > rest {
         if strict {
-            return Err(DecodeError::Tile(TileError::Invalid { place }));
+            return Err(TileError::Invalid { place }.into());
         }
         return Ok(cut_short(start, body));
     }
     if rest > codestream.len() - behind {
-        return Err(DecodeError::Tile(TileError::Invalid { place }));
+        return Err(TileError::Invalid { place }.into());
     }
     let end = behind + rest;
     Ok(TilePartSurvey {
         tile: start.isot,
         tpsot: start.tpsot,
         place: end,
-        end: TilePartEnd::Whole {
-            body,
+        body: Some(TilePartBody {
+            place: body,
             len: end - body,
             headers,
-        },
+        }),
     })
 }
 
-/// Surveys the tile-part whose SOT stands at `place`, in a picture of `tiles` tiles and `csiz` components; `packets` says whether packets of
-/// the main header are kept. Where `strict` is off, a header that breaks off or is longer than its tile-part is cut short.
+/// Surveys the tile-part whose SOT stands at `place`, in a picture of `tiles` tiles. Where the rules are not strict, a header that breaks off
+/// or is longer than its tile-part is cut short.
 pub fn survey_tile_part(
     codestream: &[u8],
     place: usize,
     tiles: u32,
-    csiz: u16,
-    packets: bool,
-    strict: bool,
+    rules: PartRules,
 ) -> Result<TilePartSurvey, DecodeError>
-    ensures surveyed { Surveyed codestream.now place tiles csiz packets strict result }
+    ensures surveyed { Surveyed codestream.now place tiles rules.csiz rules.packets rules.strict result }
     ensures inside { OnOk result (place + 12 ≤ length codestream.now) }
 {
     let mut reader = BitReader::new(codestream, place);
     let start = tile_part_start(&mut reader, tiles)?;
-    let header = header_end(&mut reader, csiz, packets, strict)?;
-    match header {
-        HeaderEnd::Closed {
-            place: body,
-            headers,
-        } => tile_part_end(codestream, place, start, headers, body, strict),
-        HeaderEnd::CutShort { place: reached } => Ok(cut_short(start, reached)),
+    let end = header_end(&mut reader, rules)?;
+    match end.headers {
+        Some(headers) => tile_part_end(codestream, place, start, headers, end.place, rules.strict),
+        None => Ok(cut_short(start, end.place)),
     }
 }

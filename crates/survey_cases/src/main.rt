@@ -2,15 +2,15 @@
 //! asked of them, as cases.py writes it.
 #![tactic(auto)]
 
-ghost use Rattle.std.specs.Prelude.{◌≤◌, length, IfOk};
-
 use faults::decode::{DecodeError, MarkerError};
 use faults::segment::{Cause, ReadFault};
+use headers::main_header::MainHeader;
+use headers::part_header::PartRules;
 use main_packets::packet;
 use main_settings::component_settings;
 use main_survey::room::Room;
 use main_survey::survey::survey_main;
-use part_survey::survey::{TilePartEnd, survey_tile_part};
+use part_survey::survey::survey_tile_part;
 use reader::reader::BitReader;
 use settings::rows::ComponentSettings;
 use std::io;
@@ -45,9 +45,7 @@ enum Question {
     Part {
         place: usize,
         tiles: u32,
-        csiz: u16,
-        packets: bool,
-        strict: bool,
+        rules: PartRules,
     },
     Settings {
         segments: usize,
@@ -59,24 +57,6 @@ enum Question {
         csiz: u16,
         k: usize,
     },
-}
-
-fn read_input(rt: &HostRuntime, buffer: &mut [u8]) -> io::Result<usize>
-    ensures { IfOk result (λ n. n ≤ length buffer.old) }
-{
-    let mut input = rt.stdin();
-    let mut filled = 0;
-    for _ in 0..LIMIT {
-        if filled >= buffer.len() {
-            break;
-        }
-        let count = input.read(&mut buffer[filled..])?;
-        if count == 0 {
-            break;
-        }
-        filled += count;
-    }
-    Ok(filled)
 }
 
 fn read_usize(input: &mut BitReader<'_>) -> Result<usize, ReadFault> {
@@ -104,36 +84,45 @@ fn read_room(input: &mut BitReader<'_>) -> Result<Room, ReadFault> {
     })
 }
 
-fn read_question(input: &mut BitReader<'_>) -> Result<Question, ReadFault> {
-    let tag = input.read_byte()?;
+fn read_rules(input: &mut BitReader<'_>, csiz: u16) -> Result<PartRules, ReadFault> {
+    Ok(PartRules {
+        csiz,
+        packets: input.read_byte()? == 1,
+        strict: input.read_byte()? == 1,
+    })
+}
+
+fn read_part(input: &mut BitReader<'_>) -> Result<Question, ReadFault> {
     let place = read_usize(input)?;
-    if tag == 0 {
-        return Ok(Question::Main {
-            place,
-            room: ENOUGH,
-        });
-    }
-    if tag == 1 {
-        let room = read_room(input)?;
-        return Ok(Question::Main { place, room });
-    }
     let csiz = input.read_u16()?;
-    match tag {
-        2 => Ok(Question::Part {
-            place,
-            csiz,
-            tiles: input.read_u32()?,
-            packets: input.read_byte()? == 1,
-            strict: input.read_byte()? == 1,
+    let tiles = input.read_u32()?;
+    let rules = read_rules(input, csiz)?;
+    Ok(Question::Part {
+        place,
+        tiles,
+        rules,
+    })
+}
+
+fn read_question(input: &mut BitReader<'_>) -> Result<Question, ReadFault> {
+    match input.read_byte()? {
+        0 => Ok(Question::Main {
+            place: read_usize(input)?,
+            room: ENOUGH,
         }),
+        1 => Ok(Question::Main {
+            place: read_usize(input)?,
+            room: read_room(input)?,
+        }),
+        2 => read_part(input),
         3 => Ok(Question::Settings {
-            segments: place,
-            csiz,
+            segments: read_usize(input)?,
+            csiz: input.read_u16()?,
             index: input.read_u16()?,
         }),
         _ => Ok(Question::Packet {
-            segments: place,
-            csiz,
+            segments: read_usize(input)?,
+            csiz: input.read_u16()?,
             k: read_usize(input)?,
         }),
     }
@@ -173,21 +162,23 @@ fn show_fault(rt: &HostRuntime, fault: &DecodeError) -> io::Result<()> {
 }
 
 fn show_settings(rt: &HostRuntime, row: &ComponentSettings) -> io::Result<()> {
-    let parameters = row.parameters;
-    let quantization = row.quantization;
+    let parameters = &row.parameters;
+    let quantization = &row.quantization;
+    let [precincts, ..] = parameters.precincts;
+    let [step, ..] = quantization.steps;
     let numbers = [
         usize::from(row.flags.raw),
         usize::from(parameters.levels),
         usize::from(parameters.width),
         usize::from(parameters.height),
         parameters.transformation as usize,
-        usize::from(parameters.widths[0]),
-        usize::from(parameters.heights[0]),
+        usize::from(precincts.width),
+        usize::from(precincts.height),
         quantization.style as usize,
         usize::from(quantization.guard),
         usize::from(quantization.count),
-        usize::from(quantization.steps[0].exponent),
-        usize::from(quantization.steps[0].mantissa),
+        usize::from(step.exponent),
+        usize::from(step.mantissa),
     ];
     show(rt, "settings", &numbers)
 }
@@ -207,52 +198,82 @@ fn ask_main(rt: &HostRuntime, bytes: &[u8], place: usize, room: Room) -> io::Res
     }
 }
 
-fn ask(rt: &HostRuntime, bytes: &[u8], question: Question) -> io::Result<()> {
+fn ask_part(
+    rt: &HostRuntime,
+    bytes: &[u8],
+    place: usize,
+    tiles: u32,
+    rules: PartRules,
+) -> io::Result<()> {
+    match survey_tile_part(bytes, place, tiles, rules) {
+        Ok(part) => {
+            let tile = usize::from(part.tile);
+            let tpsot = usize::from(part.tpsot);
+            match part.body {
+                Some(body) => {
+                    show(
+                        rt,
+                        "whole",
+                        &[tile, tpsot, part.place, body.place, body.len, body.headers],
+                    )
+                }
+                None => show(rt, "cut", &[tile, tpsot, part.place]),
+            }
+        }
+        Err(fault) => show_fault(rt, &fault),
+    }
+}
+
+fn ask(rt: &HostRuntime, codestream: &[u8], question: Question) -> io::Result<()> {
     match question {
-        Question::Main { place, room } => ask_main(rt, bytes, place, room),
+        Question::Main { place, room } => ask_main(rt, codestream, place, room),
         Question::Part {
             place,
             tiles,
-            csiz,
-            packets,
-            strict,
-        } => match survey_tile_part(bytes, place, tiles, csiz, packets, strict) {
-            Ok(part) => {
-                let tile = usize::from(part.tile);
-                let tpsot = usize::from(part.tpsot);
-                match part.end {
-                    TilePartEnd::Whole { body, len, headers } => {
-                        show(rt, "whole", &[tile, tpsot, part.place, body, len, headers])
-                    }
-                    TilePartEnd::CutShort => show(rt, "cut", &[tile, tpsot, part.place]),
-                }
-            }
-            Err(fault) => show_fault(rt, &fault),
-        },
+            rules,
+        } => ask_part(rt, codestream, place, tiles, rules),
         Question::Settings {
             segments,
             csiz,
             index,
-        } => show_settings(rt, &component_settings(bytes, segments, csiz, index)),
-        Question::Packet { segments, csiz, k } => match packet(bytes, segments, csiz, k) {
-            Some(row) => show(rt, "packet", &[usize::from(row.zppm), row.place, row.len]),
-            None => show(rt, "none", &[]),
-        },
+        } => {
+            let header = MainHeader {
+                codestream,
+                segments,
+                csiz,
+            };
+            show_settings(rt, &component_settings(header, index))
+        }
+        Question::Packet { segments, csiz, k } => {
+            let header = MainHeader {
+                codestream,
+                segments,
+                csiz,
+            };
+            match packet(header, k) {
+                Some(row) => show(rt, "packet", &[usize::from(row.index), row.place, row.len]),
+                None => show(rt, "none", &[]),
+            }
+        }
     }
 }
 
 // Asks of the codestream cut to each length from the least on, and of the whole.
 fn ask_all(rt: &HostRuntime, subject: &Subject<'_>, question: Question) -> io::Result<()> {
     for count in subject.from..subject.bytes.len() {
-        ask(rt, &subject.bytes[0..count], question)?;
+        ask(rt, &subject.bytes[..count], question)?;
     }
     ask(rt, subject.bytes, question)
 }
 
 fn main(rt: HostRuntime) -> io::Result<()> {
-    let mut buffer = [0u8; LIMIT];
-    let count = read_input(&rt, &mut buffer)?;
-    let mut input = BitReader::new(&buffer[0..count], 0);
+    // With a Vec the program would trust the C library's heap too.
+    let mut buffer = [0; LIMIT];
+    let count = io::copy(
+        &mut rt.stdin().take(LIMIT as u64),
+        &mut buffer.as_mut_slice(),
+    )?;
+    let mut input = BitReader::new(&buffer[..LIMIT.min(count as usize)], 0);
     for _ in 0..LIMIT {
         let Ok(subject) = read_subject(&mut input) else {
             break;

@@ -1,14 +1,34 @@
-use Rattle.packed.specs.Ppm.{packets_left}
-use Rattle.std.proofs.Common.{Ok, Err}
-use Rattle.main_packets.proofs.Rows.{nth_first, nth_none}
+use Rattle.std.proofs.Common.{◌≤◌, length, inl, sym, ap, ◌∙◌, arith}
+use Rattle.std.specs.Prelude.{option_map}
+use Rattle.std.proofs.lemmas.Iterator.Consumers.{nth_from_yields_List, count_from_yields_List}
+use Rattle.std.proofs.lemmas.List.{length-map}
+use Rattle.packed.specs.Ppm.{packet_of, packets_left}
+use Rattle.main_packets.proofs.Rows.{packets_listed, nth_found, nth_past}
 use Rattle.main_packets.proofs.nth_packet.Goals as goal
+use Rattle.main_packets.proofs.nth_packet.Goals.{In-Some, In-None}
 
-pub returns-then-left-eq0 : goal.returns-then-left-eq0
-returns-then-left-eq0 c =
-    c.loop-packet.invariant (Ok _)
-    (nth_first c.args.zppm (packets_left c.loop-packet.rest) _ _ c.loop-packet.left c.in-Some.ensures.0 c.if-left-eq0.true)
+pub returns-in-Some : goal.returns-in-Some
+returns-in-Some c =
+    nth_found c.args.zppm (packets_left c.args.packets) c.args.n (packet_of c.in-Some.packet)
+    (sym (nth_from_yields_List _ _ _ c.nth.ensures.ran (packets_listed c.args.packets)) ∙ ap (option_map packet_of) c.in-Some.is)
 
-pub returns : goal.returns
-returns c =
-    c.loop-packet.invariant (Err _)
-    (nth_none c.args.zppm (packets_left c.loop-packet.rest) c.loop-packet.left c.in_default.ensures.0)
+-- there are no more than n
+past : (c : In-None) → length (packets_left c.args.packets) ≤ c.args.n
+past c =
+    nth_past (packets_left c.args.packets) c.args.n
+    (sym (nth_from_yields_List _ _ _ c.nth.ensures.ran (packets_listed c.args.packets)) ∙ ap (option_map packet_of) c.in-None.is)
+
+pub count-requires-clause-fits : goal.count-requires-clause-fits
+count-requires-clause-fits c = let few = past (goal.at.count-requires-clause-fits c).In-None in inl (omega arith)
+
+pub overflow_sub-result : goal.overflow_sub-result
+overflow_sub-result c =
+    let few = past (goal.at.overflow_sub-result c).In-None in
+    let all = count_from_yields_List _ _ c.count.ensures.ran (packets_listed c.args.packets) in
+    omega arith
+
+pub returns-in-None : goal.returns-in-None
+returns-in-None c =
+    let few = past (goal.at.returns-in-None c).In-None in
+    let all = count_from_yields_List _ _ c.count.ensures.ran (packets_listed c.args.packets) in
+    simp length-map (omega arith)

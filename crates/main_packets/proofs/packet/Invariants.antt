@@ -2,4 +2,4 @@ use Rattle.main_packets.proofs.Ordered.{Left}
 use Rattle.main_packets.proofs.packet.Given as goal
 
 abbrev pub invariant-loop-zppm : goal.invariant-loop-zppm
-invariant-loop-zppm l = Left l.codestream l.csiz l.segments l.k l.zppm l.left
+invariant-loop-zppm l = Left l.header.codestream.now l.header.csiz l.header.segments l.k l.zppm l.left

@@ -8,4 +8,4 @@ use Rattle.headers.proofs.contents.ppm_found.Goals as goal
 pub returns : goal.returns
 returns c =
     let f = c.in_ok-ppm.ensures in
-    record { found = as_found standing.ppm 96 (ppm_reading c.args.reader.now.«data».now c.args.reader.now.place) (Ppm c.in_ok-ppm.ppm.count) c.ppm_marker.new.reader f.answers.0 (refl, f.answers.1.count); same = f.same }
+    (as_found standing.ppm 96 (ppm_reading c.args.reader.now.«data».now c.args.reader.now.place) (Ppm c.in_ok-ppm.ppm.count) c.ppm_marker.new.reader f.answers.0 (refl, f.answers.1.count), f.same)

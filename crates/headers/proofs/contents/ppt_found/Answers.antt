@@ -30,14 +30,12 @@ ppt_inside d p vs q e =
 pub returns : goal.returns
 returns c =
     let f = c.in_ok-ppt.ensures in
-    let m = f.answers.1 in
+    let m = f.0.1 in
     let d = bytes_of c.args.reader.now in
     let l : length c.in_ok-ppt.ppt.«data».now ≡ slice_index (values_of (here ppt_layout c.args.reader.now)) 0 - 3 =
-    part_length d c.in_ok-ppt.ppt.«data».now _ _ (ppt_inside d c.args.reader.now.place _ _ f.answers.0) m.bytes.0 in
-    record {
-      found =
-          as_found standing.ppt 97 (here ppt_layout c.args.reader.now)
+    part_length d c.in_ok-ppt.ppt.«data».now _ _ (ppt_inside d c.args.reader.now.place _ _ f.0.0) m.bytes.0 in (
+      as_found standing.ppt 97 (here ppt_layout c.args.reader.now)
           (Ppt c.in_ok-ppt.ppt.zppt c.in_ok-ppt.ppt.place (length c.in_ok-ppt.ppt.«data».now))
-          c.ppt_marker.new.reader f.answers.0 (refl, m.zppt, m.place, l);
-      same = f.same;
-    }
+          c.ppt_marker.new.reader f.0.0 (refl, m.zppt, m.place, l),
+      f.1,
+    )

@@ -1,4 +1,5 @@
-use Rattle.std.proofs.Common.{true, refl}
+use Rattle.std.proofs.Common.{refl}
+use Rattle.layouts.specs.declared.header.HeaderKind.TheVariants.{Main}
 use Rattle.layouts.specs.Layouts.{here}
 use Rattle.quantization.specs.Quantization.{qcc_layout}
 use Rattle.headers.specs.declared.found.Segment.TheVariants.{Sets}
@@ -9,5 +10,5 @@ use Rattle.headers.proofs.contents.qcc_found.Goals as goal
 
 pub returns : goal.returns
 returns c =
-    let f = c.in_ok-qcc.ensures in
-    record { found = as_found standing.qcc 93 (here (qcc_layout true c.args.csiz) c.args.reader.now) (Sets (Qcc c.in_ok-qcc.qcc.0 c.in_ok-qcc.qcc.1)) c.qcc_marker.new.reader f.answers.0 (refl, f.answers.1); same = f.same }
+    let f = c.in_ok-index.ensures in
+    (as_found standing.qcc 93 (here (qcc_layout Main c.args.csiz) c.args.reader.now) (Sets (Qcc c.in_ok-index.index c.in_ok-index.qcc)) c.qcc_marker.new.reader f.0.0 (refl, f.0.1), f.1)

@@ -10,4 +10,4 @@ use Rattle.headers.proofs.contents.qcd_found.Goals as goal
 pub returns : goal.returns
 returns c =
     let f = c.in_ok-qcd.ensures in
-    record { found = as_found standing.qcd 92 (here qcd_layout c.args.reader.now) (Sets (Qcd c.in_ok-qcd.qcd)) c.qcd_marker.new.reader f.answers.0 (refl, f.answers.1); same = f.same }
+    (as_found standing.qcd 92 (here qcd_layout c.args.reader.now) (Sets (Qcd c.in_ok-qcd.qcd)) c.qcd_marker.new.reader f.0.0 (refl, f.0.1), f.1)
