@@ -3,6 +3,7 @@ use Rattle.std.specs.Prelude.{ℕ, ◌+◌, ◌*◌, map, slice_index, slice_ind
 use Rattle.rect.specs.Rects.{region, nowhere}
 use Rattle.rect.specs.Spans.{Rect}
 use Rattle.blocks.specs.Components.{Coding}
+use Rattle.coding.specs.Coding.{widths_of, heights_of}
 use Rattle.settings.specs.declared.rows.ComponentSettings.{ComponentSettings}
 use Rattle.tables.specs.State.{State}
 use Rattle.tables.specs.declared.book.OpenBook.{OpenBook}
@@ -12,8 +13,8 @@ abbrev pub coding_of : ComponentSettings → Coding
 coding_of s =
     record {
       levels = s.parameters.levels;
-      ppx = λ r. slice_index s.parameters.widths r;
-      ppy = λ r. slice_index s.parameters.heights r;
+      ppx = λ r. slice_index (widths_of s.parameters.precincts) r;
+      ppy = λ r. slice_index (heights_of s.parameters.precincts) r;
       xcb = s.parameters.width;
       ycb = s.parameters.height;
     }

@@ -1,5 +1,5 @@
 -- The lists that walks over the rows of the tables give, by their rectangles.
-use Rattle.std.specs.Prelude.{ℕ, ◌+◌, Bool, cond, ◌&&◌, List, map, length, Some, None, Ok, Err, Option, Result, nat_le, nat_lt, slice_index_or}
+use Rattle.std.specs.Prelude.{ℕ, ◌+◌, Bool, if◌then◌else◌, ◌&&◌, List, map, length, Some, None, Ok, Err, Option, Result, nat_le, nat_lt, slice_index_or}
 use Rattle.std.specs.List.{range_with_len}
 use Rattle.faults.specs.declared.decode.DecodeError.{DecodeError}
 use Rattle.faults.specs.declared.decode.DecodeError.TheVariants.{Book}
@@ -15,7 +15,6 @@ use Rattle.tables.specs.Held.{held}
 use Rattle.tables.specs.State.{State}
 use Rattle.tables.specs.declared.book.OpenBook.{OpenBook}
 use Rattle.tables.specs.declared.book.TileBook.{TileBook}
-use Rattle.tables.specs.declared.book.TileBook.TheVariants as book
 use Rattle.starts.specs.At.{coding_at, tile_at, step_x, step_y}
 
 -- a list, or why there is none
@@ -26,14 +25,18 @@ abbrev pub no_such : Listed
 no_such = Err (Book NoSuchIndex)
 
 -- what is tested of every question: 20, then 23
+abbrev pub asked_of : (OpenBook → State → Listed) → Option OpenBook → State → Listed
+asked_of f None s = Err (Book Empty)
+asked_of f (Some b) s = if held b s then f b s else Err (Book TableTooShort)
+
 abbrev pub asked : (OpenBook → State → Listed) → TileBook → State → Listed
-asked f book.Empty s = Err (Book Empty)
-asked f (book.Open b) s = cond (held b s) (f b s) (Err (Book TableTooShort))
+asked f b s = asked_of f b.open s
 
 -- the component tiles of tile t (B-12)
 abbrev pub component_tiles : ℕ → OpenBook → State → Listed
 component_tiles t b s =
-    cond (nat_lt t b.tiles) (Ok (map (λ c. shrink (step_x s c) (step_y s c) (tile_at s t)) (range_with_len 0 b.size.csiz))) no_such
+    if nat_lt t b.tiles then Ok (map (λ c. shrink (step_x s c) (step_y s c) (tile_at s t)) (range_with_len 0 b.size.csiz))
+    else no_such
 
 -- the resolutions of component c in tile t (B-14)
 abbrev pub there : ℕ → ℕ → OpenBook → Bool
@@ -44,7 +47,8 @@ resolutions_of p t = map (λ r. resolution p.levels r t) (range_with_len 0 (p.le
 
 abbrev pub resolution_tiles : ℕ → ℕ → OpenBook → State → Listed
 resolution_tiles t c b s =
-    cond (there t c b) (Ok (resolutions_of (coding_at b s c t) (shrink (step_x s c) (step_y s c) (tile_at s t)))) no_such
+    if there t c b then Ok (resolutions_of (coding_at b s c t) (shrink (step_x s c) (step_y s c) (tile_at s t)))
+    else no_such
 
 -- the precincts of resolution r (B-16); 17 and 18
 abbrev pub unless : Option DecodeError → List Rect → Listed
@@ -64,16 +68,18 @@ abbrev pub resolved : ℕ → ℕ → ℕ → OpenBook → State → Bool
 resolved t c r b s = there t c b && nat_le r (coding_at b s c t).levels
 
 abbrev pub precinct_rects : ℕ → ℕ → ℕ → OpenBook → State → Listed
-precinct_rects t c r b s = cond (resolved t c r b s) (precincts_of (across_in t c r b s) (down_in t c r b s)) no_such
+precinct_rects t c r b s =
+    if resolved t c r b s then precincts_of (across_in t c r b s) (down_in t c r b s)
+    else no_such
 
 -- the code-blocks of a sub-band in precinct k (B.7)
 abbrev pub code_blocks : ℕ → ℕ → ℕ → SubBandType → ℕ → OpenBook → State → Listed
 code_blocks t c r band k b s =
-    cond (resolved t c r b s && has r band && nat_lt k (length (precincts (across_in t c r b s) (down_in t c r b s))))
-    (unless (refusal (across_in t c r b s) (down_in t c r b s))
+    if resolved t c r b s && has r band && nat_lt k (length (precincts (across_in t c r b s) (down_in t c r b s))) then
+    unless (refusal (across_in t c r b s) (down_in t c r b s))
     (precinct_blocks (coding_at b s c t).xcb (coding_at b s c t).ycb (across_in t c r b s) (down_in t c r b s) band
-    (slice_index_or (precincts (across_in t c r b s) (down_in t c r b s)) k blank)))
-    no_such
+    (slice_index_or (precincts (across_in t c r b s) (down_in t c r b s)) k blank))
+    else no_such
 
 -- which walk is started: over the component tiles of a tile, the resolutions of a component tile, the precincts of a resolution, or the
 -- code-blocks of a sub-band in a precinct

@@ -2,8 +2,7 @@
 use Rattle.std.specs.Prelude.{List, length}
 use Rattle.segments.specs.declared.size_data.ComponentSizeInfo.{ComponentSizeInfo}
 use Rattle.settings.specs.declared.rows.ComponentSettings.{ComponentSettings}
-use Rattle.settings.specs.declared.rows.HeaderRow.{HeaderRow}
-use Rattle.settings.specs.declared.rows.PacketRow.{PacketRow}
+use Rattle.settings.specs.declared.rows.PackedRow.{PackedRow}
 use Rattle.settings.specs.declared.rows.PartRow.{PartRow}
 use Rattle.settings.specs.declared.rows.TileRow.{TileRow}
 use Rattle.main_survey.specs.declared.room.Room.{Room}
@@ -15,9 +14,9 @@ pub record State : Type 0 where
   pub components : List ComponentSizeInfo
   pub tiles : List TileRow
   pub settings : List ComponentSettings
-  pub packets : List PacketRow
+  pub packets : List PackedRow
   pub parts : List PartRow
-  pub headers : List HeaderRow
+  pub headers : List PackedRow
 
 abbrev pub state_of : TileBook → Tables → State
 state_of b t =

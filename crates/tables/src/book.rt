@@ -16,9 +16,8 @@ pub struct OpenBook {
     pub headers: usize,
 }
 
-/// A book is empty until a main header is accepted, and then open.
+/// A book: none of a picture until a main header is accepted.
 #[derive(Clone, Copy)]
-pub enum TileBook {
-    Empty,
-    Open(OpenBook),
+pub struct TileBook {
+    pub open: Option<OpenBook>,
 }

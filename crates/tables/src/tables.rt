@@ -1,5 +1,5 @@
 use segments::size_data::ComponentSizeInfo;
-use settings::rows::{ComponentSettings, HeaderRow, PacketRow, PartRow, TileRow};
+use settings::rows::{ComponentSettings, PackedRow, PartRow, TileRow};
 
 /// The rows that a caller lends a book; it passes the same ones to each call.
 #[derive(Drop)]
@@ -8,7 +8,7 @@ pub struct Tables<'a> {
     pub tiles: &'a mut [TileRow],
     /// Row tile × Csiz + component.
     pub settings: &'a mut [ComponentSettings],
-    pub packets: &'a mut [PacketRow],
+    pub packets: &'a mut [PackedRow],
     pub parts: &'a mut [PartRow],
-    pub headers: &'a mut [HeaderRow],
+    pub headers: &'a mut [PackedRow],
 }
