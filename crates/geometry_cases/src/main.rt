@@ -109,6 +109,7 @@ fn show_rect(rt: &HostRuntime, label: &str, r: IntRect) -> io::Result<()> {
     println!(rt; "{label} {r} area {}", r.area())
 }
 
+// As these cases print a fault: its number alone.
 fn show_fault(rt: &HostRuntime, label: &str, fault: &DecodeError) -> io::Result<()> {
     println!(rt; "{label} fault {}", fault.number())
 }

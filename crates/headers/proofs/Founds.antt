@@ -1,10 +1,9 @@
 -- A reading as what stands at a place.
-use Rattle.std.proofs.Common.{◌≡◌, ℕ, ◌+◌, ◌<◌, ◌≤◌, Bool, true, false, ltb, List, get_or, None, Ok, Option, Result, sym, refl, ap, ◌∙◌, subst, ap₂}
-use Rattle.std.proofs.lemmas.Bool.{lt-ltb, le-ltb}
+use Rattle.std.proofs.Common.{◌≡◌, ℕ, ◌+◌, ◌<◌, Bool, true, false, ltb, List, get_or, None, Ok, Option, Result, sym, refl, ap, ◌∙◌, subst, ap₂}
+use Rattle.std.proofs.lemmas.Bool.{lt-ltb}
 use Rattle.faults.specs.declared.decode.DecodeError.{DecodeError}
-use Rattle.faults.specs.declared.decode.DecodeError.TheVariants.{Marker, Validation}
+use Rattle.faults.specs.declared.decode.DecodeError.TheVariants.{Marker}
 use Rattle.faults.specs.declared.decode.MarkerError.TheVariants.{Invalid}
-use Rattle.faults.specs.declared.decode.ValidationError.TheVariants.{InvalidComponentMetadata}
 use Rattle.reader.specs.Bytes.{marker_at}
 use Rattle.reader.specs.Reads.{bytes_of}
 use Rattle.reader.specs.declared.reader.BitReader.{BitReader}

@@ -1,6 +1,8 @@
 ghost use Rattle.headers.specs.Kinds.{main_kind_of, part_kind_of};
 ghost use Rattle.std.specs.Prelude.{◌≡◌};
 
+use layouts::markers::{COC, COD, COM, CRG, EOC, PLT, PPM, PPT, QCC, QCD, RGN, SOD, SOT, TLM};
+
 /// What a marker is in a header.
 #[derive(Clone, Copy, Debug, PartialEq, Eq)]
 pub enum Kind {
@@ -29,16 +31,16 @@ pub fn main_kind(code: u8) -> Kind
     ensures { result ≡ main_kind_of code }
 {
     match code {
-        0x90 => Kind::Sot,
-        0x52 => Kind::Cod,
-        0x53 => Kind::Coc,
-        0x5C => Kind::Qcd,
-        0x5D => Kind::Qcc,
-        0x60 => Kind::Ppm,
-        0x5E => Kind::Rgn,
-        0x55 => Kind::Tlm,
-        0x64 => Kind::Com,
-        0x63 => Kind::Crg,
+        SOT => Kind::Sot,
+        COD => Kind::Cod,
+        COC => Kind::Coc,
+        QCD => Kind::Qcd,
+        QCC => Kind::Qcc,
+        PPM => Kind::Ppm,
+        RGN => Kind::Rgn,
+        TLM => Kind::Tlm,
+        COM => Kind::Com,
+        CRG => Kind::Crg,
         0x30..=0x3F => Kind::Bare,
         _ => Kind::Foreign,
     }
@@ -49,15 +51,15 @@ pub fn part_kind(code: u8) -> Kind
     ensures { result ≡ part_kind_of code }
 {
     match code {
-        0x93 => Kind::Sod,
-        0xD9 => Kind::Eoc,
-        0x52 => Kind::Cod,
-        0x53 => Kind::Coc,
-        0x5C => Kind::Qcd,
-        0x5D => Kind::Qcc,
-        0x61 => Kind::Ppt,
-        0x58 => Kind::Plt,
-        0x64 => Kind::Com,
+        SOD => Kind::Sod,
+        EOC => Kind::Eoc,
+        COD => Kind::Cod,
+        COC => Kind::Coc,
+        QCD => Kind::Qcd,
+        QCC => Kind::Qcc,
+        PPT => Kind::Ppt,
+        PLT => Kind::Plt,
+        COM => Kind::Com,
         0x30..=0x3F => Kind::Bare,
         _ => Kind::Foreign,
     }

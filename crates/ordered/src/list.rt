@@ -3,7 +3,7 @@ ghost use Rattle.ordered.specs.Order.{IsPlace, Insertion, Insertions, RowAt};
 
 use crate::{Full, Sequenced};
 
-/// A list kept in order of the sequence index in lent rows, of which the first `len` are filled.
+/// A list kept in order of the sequence index in lent rows, of which the first `len` are filled: no heap.
 // The clauses `lent` say that the rows are still the lent ones, so that their owner knows what they hold when the list is gone.
 #[derive(Drop)]
 pub struct OrderedList<'a, T> {

@@ -22,6 +22,7 @@ fn patched(sample: &[u8; 45], place: usize, bytes: &[u8]) -> [u8; 45] {
     codestream
 }
 
+// As these cases print a fault: its kind behind it.
 fn show_fault(rt: &HostRuntime, fault: &DecodeError) -> io::Result<()> {
     match fault {
         DecodeError::Marker(

@@ -33,6 +33,7 @@ fn ppt(rt: &HostRuntime, bytes: &[u8]) -> io::Result<()> {
     println!(rt; ", ends at {}", reader.offset())
 }
 
+// As these cases print the packets of a PPM segment.
 fn show_packets(rt: &HostRuntime, ppm: &PpmMarkerData<'_>) -> io::Result<()> {
     print!(rt; "PPM {}, {} packets:", ppm.zppm, ppm.count)?;
     let mut packets = ppm.packets;

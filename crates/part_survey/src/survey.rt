@@ -57,7 +57,7 @@ fn tile_part_start(reader: &mut BitReader<'_>, tiles: u32) -> Result<TilePartHea
     Ok(start)
 }
 
-// 1 for PPT, 0 for any other.
+// 1 for PPT, 0 for any other; `Found::Stands(Segment::Ppt { .. })` as one pattern is not covered.
 fn ppt_count(segment: Segment) -> usize
     ensures { result ≡ ppt_count_of segment }
 {
@@ -100,12 +100,11 @@ fn following(codestream: &[u8], behind: usize, psot: u32) -> usize
     if psot != 0 {
         return (psot as usize).saturating_sub(SOT_SIZE);
     }
-    let end = codestream.len();
-    let rest = end - behind;
-    if rest >= 2 && codestream[end - 2] == 0xFF && codestream[end - 1] == EOC {
-        rest - 2
+    let rest = &codestream[behind..];
+    if rest.ends_with(&[0xFF, EOC]) {
+        rest.len() - 2
     } else {
-        rest
+        rest.len()
     }
 }
 

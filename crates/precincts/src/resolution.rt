@@ -80,10 +80,10 @@ impl PrecinctGrid {
             return None;
         }
         if self.x.is_unfit() || self.y.is_unfit() {
-            return Some(DecodeError::Decoding(DecodingError::InvalidPrecinct));
+            return Some(DecodingError::InvalidPrecinct.into());
         }
         if self.x.is_far() || self.y.is_far() {
-            return Some(DecodeError::Decoding(DecodingError::PrecinctTooFar));
+            return Some(DecodingError::PrecinctTooFar.into());
         }
         None
     }

@@ -11,6 +11,7 @@ use quantization::markers::{qcc_marker, qcd_marker};
 use reader::reader::BitReader;
 use std::io;
 
+// As these cases print a COD, and below the step sizes.
 fn show_style(rt: &HostRuntime, cod: &CodingStyleDefault) -> io::Result<()> {
     let flags = cod.component.flags.raw;
     print!(rt;

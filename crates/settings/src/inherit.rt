@@ -125,6 +125,7 @@ impl ComponentSettings {
         ensures applied { result ≡ applied index self.now segments.now }
         ensures settled { Settled index self.now segments.now result }
     {
+        // A `fold` left the second clause open.
         let mut row = *self;
         for segment in segments {
             row = row.after(index, segment);

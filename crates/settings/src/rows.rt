@@ -30,7 +30,7 @@ pub struct TileRow {
 
 /// Packed packet headers, a packet of a PPM segment or the data of a PPT segment: the segment's index, and where the bytes lie in the
 /// codestream.
-#[derive(Clone, Copy)]
+#[derive(Clone, Copy, Default)]
 pub struct PackedRow {
     pub index: u8,
     pub place: usize,
@@ -38,7 +38,7 @@ pub struct PackedRow {
 }
 
 /// A tile-part: its tile, where its body lies, and which rows of the headers are its own.
-#[derive(Clone, Copy)]
+#[derive(Clone, Copy, Default)]
 pub struct PartRow {
     pub tile: u32,
     pub place: usize,
@@ -90,7 +90,7 @@ pub fn blank_parameters() -> CodingStyleParameters
 }
 
 impl ComponentSettings {
-    /// The row of a component that no segment has set.
+    /// The row of a component that no segment has set: no `Default`, since the exponents of its code-blocks are 2.
     pub fn blank() -> ComponentSettings
         ensures { BlankSettings result }
     {
@@ -128,25 +128,15 @@ impl PackedRow {
     pub fn blank() -> PackedRow
         ensures { result ≡ blank_packed }
     {
-        PackedRow {
-            index: 0,
-            place: 0,
-            len: 0,
-        }
+        PackedRow::default()
     }
 }
 
 impl PartRow {
-    /// The row of no tile-part. Each kind of row has a blank of its own: a trait would serve no generic user.
+    /// The row of no tile-part.
     pub fn blank() -> PartRow
         ensures { result ≡ blank_part }
     {
-        PartRow {
-            tile: 0,
-            place: 0,
-            len: 0,
-            header: 0,
-            headers: 0,
-        }
+        PartRow::default()
     }
 }

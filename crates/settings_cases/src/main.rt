@@ -53,6 +53,7 @@ fn unread() -> Setting {
     Setting::Qcd(info)
 }
 
+// As these cases print a row: what COD and COC set of it.
 fn show(rt: &HostRuntime, label: &str, row: &ComponentSettings) -> io::Result<()> {
     println!(rt;
         "{label}: flags {}, levels {}",
@@ -90,6 +91,7 @@ fn rank(rt: &HostRuntime) -> io::Result<()> {
     show(rt, "main COC, COD; COD", &main.after_all(0, &[cod(0, 1)]))
 }
 
+// As these cases print a fault: its number alone.
 fn show_fault(rt: &HostRuntime, fault: &DecodeError) -> io::Result<()> {
     println!(rt; "fault {}", fault.number())
 }

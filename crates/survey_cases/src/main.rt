@@ -128,6 +128,7 @@ fn read_question(input: &mut BitReader<'_>) -> Result<Question, ReadFault> {
     }
 }
 
+// As these cases print an answer: a word and its numbers.
 fn show(rt: &HostRuntime, label: &str, numbers: &[usize]) -> io::Result<()> {
     print!(rt; "{label}")?;
     for number in numbers {
