@@ -2,6 +2,8 @@
 //! stops it. The codestream comes on standard input.
 #![tactic(auto)]
 
+ghost use Rattle.std.specs.Prelude.{◌≤◌, length, IfOk};
+
 use picture::outline::{ComponentOutline, Outline, read_outline};
 use std::io;
 use std::io::Read;
@@ -11,6 +13,26 @@ const LIMIT: usize = 32_768;
 
 /// How many tiles are printed.
 const TILES: u32 = 64;
+
+// Each read asks for all that is left, and an interrupted one is an error: `io::copy` asks for 8,192 bytes at a time, by which the rest of a
+// longer message is lost, and reads again.
+fn read_input(rt: &HostRuntime, buffer: &mut [u8]) -> io::Result<usize>
+    ensures { IfOk result (λ n. n ≤ length buffer.old) }
+{
+    let mut input = rt.stdin();
+    let mut filled = 0;
+    for _ in 0..LIMIT {
+        if filled >= buffer.len() {
+            break;
+        }
+        let count = input.read(&mut buffer[filled..])?;
+        if count == 0 {
+            break;
+        }
+        filled += count;
+    }
+    Ok(filled)
+}
 
 fn print_sizes(rt: &HostRuntime, outline: &Outline) -> io::Result<()> {
     let size = outline.size;
@@ -62,11 +84,8 @@ fn print_outline(rt: &HostRuntime, outline: &Outline, codestream: &[u8]) -> io::
 fn main(rt: HostRuntime) -> io::Result<()> {
     // With a Vec the program would trust the C library's heap too.
     let mut buffer = [0; LIMIT];
-    let count = io::copy(
-        &mut rt.stdin().take(LIMIT as u64),
-        &mut buffer.as_mut_slice(),
-    )?;
-    let codestream = &buffer[..LIMIT.min(count as usize)];
+    let count = read_input(&rt, &mut buffer)?;
+    let codestream = &buffer[..count];
     match read_outline(codestream) {
         Ok(outline) => print_outline(&rt, &outline, codestream),
         Err(fault) => println!(rt; "fault,{fault}"),

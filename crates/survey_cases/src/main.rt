@@ -2,6 +2,8 @@
 //! asked of them, as cases.py writes it.
 #![tactic(auto)]
 
+ghost use Rattle.std.specs.Prelude.{◌≤◌, length, IfOk};
+
 use faults::decode::{DecodeError, MarkerError};
 use faults::segment::{Cause, ReadFault};
 use headers::main_header::MainHeader;
@@ -57,6 +59,25 @@ enum Question {
         csiz: u16,
         k: usize,
     },
+}
+
+// As in `outline`: each read asks for all that is left, and an interrupted one is an error.
+fn read_input(rt: &HostRuntime, buffer: &mut [u8]) -> io::Result<usize>
+    ensures { IfOk result (λ n. n ≤ length buffer.old) }
+{
+    let mut input = rt.stdin();
+    let mut filled = 0;
+    for _ in 0..LIMIT {
+        if filled >= buffer.len() {
+            break;
+        }
+        let count = input.read(&mut buffer[filled..])?;
+        if count == 0 {
+            break;
+        }
+        filled += count;
+    }
+    Ok(filled)
 }
 
 fn read_usize(input: &mut BitReader<'_>) -> Result<usize, ReadFault> {
@@ -270,11 +291,8 @@ fn ask_all(rt: &HostRuntime, subject: &Subject<'_>, question: Question) -> io::R
 fn main(rt: HostRuntime) -> io::Result<()> {
     // With a Vec the program would trust the C library's heap too.
     let mut buffer = [0; LIMIT];
-    let count = io::copy(
-        &mut rt.stdin().take(LIMIT as u64),
-        &mut buffer.as_mut_slice(),
-    )?;
-    let mut input = BitReader::new(&buffer[..LIMIT.min(count as usize)], 0);
+    let count = read_input(&rt, &mut buffer)?;
+    let mut input = BitReader::new(&buffer[..count], 0);
     for _ in 0..LIMIT {
         let Ok(subject) = read_subject(&mut input) else {
             break;
