@@ -4,27 +4,28 @@
 ghost use Rattle.main_packets.specs.Packets.{PacketAt, rows_of};
 ghost use Rattle.main_packets.specs.Steps.{InHeader, InSegment, Nth};
 ghost use Rattle.packed.specs.Ppm.{packets_left};
+ghost use Rattle.std.specs.Prelude.{◌≡◌, length};
 
 use headers::found::{Found, Segment};
 use headers::main_header::{MainHeader, next_main};
-use packed::ppm::ppm_marker;
-use packed::segment::SegmentReader;
+use packed::ppm::{PpmMarkerData, ppm_marker};
 use reader::reader::BitReader;
 use settings::rows::PackedRow;
 use std::ops::ControlFlow;
 
-// Packet `n` of those that the reader has before it; or by how much `n` passes their number.
-fn nth_packet(packets: SegmentReader<'_>, zppm: u8, n: usize) -> ControlFlow<PackedRow, usize>
-    ensures { Nth (rows_of zppm (packets_left packets.entry)) n result }
+// Packet `n` of a segment; or by how much `n` passes their number, which the segment has: `count` would go through them again.
+fn nth_packet(segment: PpmMarkerData<'_>, n: usize) -> ControlFlow<PackedRow, usize>
+    requires { segment.count ≡ length (packets_left segment.packets) }
+    ensures { Nth (rows_of segment.entry.zppm (packets_left segment.entry.packets)) n result }
 {
-    let mut rest = packets;
-    match rest.nth(n) {
+    let mut packets = segment.packets;
+    match packets.nth(n) {
         Some(packet) => ControlFlow::Break(PackedRow {
-            index: zppm,
+            index: segment.zppm,
             place: packet.place,
             len: packet.data.len(),
         }),
-        None => ControlFlow::Continue(n - packets.count()),
+        None => ControlFlow::Continue(n - segment.count),
     }
 }
 
@@ -39,7 +40,7 @@ fn nth_in_segment(
 {
     let mut reader = BitReader::new(codestream, place);
     match ppm_marker(&mut reader) {
-        Ok(segment) if segment.zppm == zppm => nth_packet(segment.packets, zppm, n),
+        Ok(segment) if segment.zppm == zppm => nth_packet(segment, n),
         _ => ControlFlow::Continue(n),
     }
 }

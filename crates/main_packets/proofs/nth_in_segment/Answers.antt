@@ -18,8 +18,8 @@ made c vs q e =
 pub returns-in-Ok : goal.returns-in-Ok
 returns-in-Ok c vs q e =
     let m = made (goal.at.returns-in-Ok c).In-Ok vs q e in
-    rw (← m.0, ← m.1, c.if-segment-zppm.true)
-    (same_index c.args.zppm (packets_left c.in-Ok.segment.packets) c.args.n c.nth_packet.result (search rules) c.nth_packet.ensures)
+    rw (← m.0, ← m.1, ← c.if-segment-zppm.true)
+    (same_index c.in-Ok.segment.zppm (packets_left c.in-Ok.segment.packets) c.args.n c.nth_packet.result (search rules) c.nth_packet.ensures)
 
 pub returns-in_default : goal.returns-in_default
 returns-in_default c vs q e =
