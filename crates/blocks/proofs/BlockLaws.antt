@@ -1,5 +1,5 @@
 -- The code-blocks of a rectangle.
-use Rattle.std.proofs.Common.{◌≡◌, ℕ, ◌+◌, ◌-◌, ◌*◌, ◌/◌, ◌<◌, ◌≤◌, max, Bool, true, false, cond, ltb, List, [], ◌∷◌, length, get_or, filter, sym, refl, ap, ◌∙◌, ap₂, mul-le-mul_right, mod-lt, mul-pos, div-add-mod', div-mul-le_self, arith, length-append}
+use Rattle.std.proofs.Common.{◌≡◌, ℕ, ◌+◌, ◌-◌, ◌*◌, ◌/◌, ◌<◌, ◌≤◌, max, Bool, true, false, cond, ltb, List, [], ◌∷◌, length, get_or, filter, sym, refl, ap, ◌∙◌, ap₂, mul-le-mul_right, mod-lt, mul-pos, div-add-mod', le-mul_of_pos_right, div-mul-le_self, arith, length-append}
 use Rattle.std.specs.Prelude.{All}
 use Rattle.std.specs.List.{range_with_len}
 use Rattle.std.proofs.lemmas.List.Elements.{All-cons, All-get_or, All-head, All-nil, All-tail}
@@ -85,6 +85,10 @@ begins_before w pos s i h = go (ltb s.from s.to) refl h
     go : (t : Bool) → ltb s.from s.to ≡ t → i < cond t (ceil s.to w - s.from / w) 0 → (s.from < s.to) × ((s.from / w + i) * w < s.to)
     go true e l = (ltb-true s.from s.to e, lt_ceil s.to w (s.from / w + i) pos (omega arith))
     go false e l = absurd (omega arith)
+
+pub count_below : (w : ℕ) → 0 < w → (s : Span) (i : ℕ) → i < block_count_of w s → i < s.to
+count_below w pos s i h =
+    omega (arith, (begins_before w pos s i h).1, le-mul_of_pos_right (s.from / w + i) pos)
 
 -- the blocks have every weight of the rectangle
 pub blocks_add : (w h : ℕ) → 0 < w → 0 < h → (r : Rect) → Adds r (blocks w h r)

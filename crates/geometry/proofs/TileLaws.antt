@@ -1,13 +1,14 @@
 -- The tiles cut the image area up, and a component's tiles its samples.
 use Rattle.std.proofs.Common.{◌≡◌, ℕ, ◌-◌, ◌*◌, ◌/◌, ◌%◌, ◌<◌, true, length, get_or, sym, refl, ap, ◌∙◌, ap₂, arith}
 use Rattle.std.specs.List.{range_with_len}
+use Rattle.std.proofs.lemmas.Nat.{mod_below}
 use Rattle.std.proofs.lemmas.Bool.{lt-ltb}
 use Rattle.rect.specs.declared.IntRect.{IntRect}
 use Rattle.rect.specs.Rects.{region, nowhere}
 use Rattle.rect.specs.Spans.{rect, shrink, filled}
 use Rattle.rect.specs.Sums.{total, Partition}
-use Rattle.rect.proofs.Ceil.{le_ceil, lt_ceil}
-use Rattle.rect.proofs.Places.{column_below, get_or_product, length_product, map_product, row_below}
+use Rattle.rect.proofs.Ceil.{le_ceil, lt_ceil, ceil_pos}
+use Rattle.rect.proofs.Places.{get_or_product, length_product, map_product, row_below}
 use Rattle.rect.proofs.Weights.{Mono, weight, weigh, Adds, total_product, cut_total, partition, shrink_adds}
 use Rattle.geometry.specs.declared.axis.TileAxis.{TileAxis}
 use Rattle.geometry.specs.declared.grid.TileGrid.{TileGrid}
@@ -50,6 +51,13 @@ tile_filled h v okh okv p q hp hq =
 pub accepted : (a : TileAxis) → Accepted (axis a)
 accepted a = record { filled = a.filled; sided = a.sided; before = a.before; reached = a.reached }
 
+pub tile_count_pos : (a : TileAxis) → 0 < tile_count (axis a)
+tile_count_pos a = ceil_pos (a.size - a.origin) a.side a.sided (omega (arith, a.filled, a.before))
+
+-- column of tile t
+pub column_below : (g : TileGrid) (t : ℕ) → t % columns g < columns g
+column_below g t = mod_below t (columns g) (tile_count_pos g.x)
+
 -- the tiles by number
 pub tiles_number : (g : TileGrid) → length (grid_tiles g) ≡ columns g * rows g
 tiles_number g = length_product (tile (axis g.x) (axis g.y)) (columns g) (rows g)
@@ -59,7 +67,7 @@ tile_listed g t h = sym (get_or_product (tile (axis g.x) (axis g.y)) (columns g)
 
 pub tile_of_filled : (g : TileGrid) (t : ℕ) → t < columns g * rows g → filled (tile_of g t) ≡ true
 tile_of_filled g t h =
-    tile_filled (axis g.x) (axis g.y) (accepted g.x) (accepted g.y) (t % columns g) (t / columns g) (column_below (columns g) (rows g) t h)
+    tile_filled (axis g.x) (axis g.y) (accepted g.x) (accepted g.y) (t % columns g) (t / columns g) (column_below g t)
     (row_below (columns g) (rows g) t h)
 
 pub tile_is : (g : TileGrid) (t : ℕ) (r : IntRect) → t < columns g * rows g → region r ≡ tile_of g t → TileIs g t r

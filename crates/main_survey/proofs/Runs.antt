@@ -18,7 +18,7 @@ use Rattle.headers.specs.Standing.{Contents, cod, coc, qcd, qcc, ppt, nothing, I
 use Rattle.headers.specs.Grammar.{packets_by, packets_in}
 use Rattle.headers.proofs.Once.{some_main}
 use Rattle.headers.proofs.Onwards.{main_onward}
-use Rattle.headers.proofs.Paths.{Path, path_more, path_ends, found_stands, found_ends, found_none}
+use Rattle.headers.proofs.Paths.{Path, path_none, path_more, path_ends, found_stands, found_ends, found_none}
 use Rattle.main_settings.specs.Components.{last_of, of_cod, cod_in, of_qcd, qcd_in}
 use Rattle.main_settings.proofs.Said.{last_push}
 use Rattle.main_survey.specs.Main.{too_short}
@@ -35,6 +35,18 @@ pub record Run (h : MainHeader) (room : ℕ) (b : BitReader) (c q : Bool) (n : �
   pub many : packets_in xs ≡ n
   pub fits : n ≤ room
 
+pub run_none : (h : MainHeader) (room : ℕ) (b : BitReader) → b.«data» ≡ h.codestream → b.place ≡ h.segments → Run h room b false false 0
+run_none h room b e at =
+    record {
+      same = e;
+      xs = [];
+      path = rw at (path_none (main_standing h.codestream.now h.csiz) h.segments);
+      has_cod = refl;
+      has_qcd = refl;
+      many = refl;
+      fits = omega arith;
+    }
+
 some_either : (a b : Option (List ℕ)) → is_some (option_or a b) ≡ (is_some a || is_some b)
 some_either (Some x) b = refl
 some_either None b = refl
@@ -44,7 +56,7 @@ some_push : (f : Item → Option (List ℕ)) (xs : List Item) (x : Item) (b : Bo
 some_push f xs x b e =
     ap is_some (last_push f xs x) ∙ some_either (f x) (last_of f xs) ∙ ap (λ (c : Bool). is_some (f x) || c) e
 
-packets_append : (xs ys : List Item) → packets_in (xs ++ ys) ≡ packets_in xs + packets_in ys
+pub packets_append : (xs ys : List Item) → packets_in (xs ++ ys) ≡ packets_in xs + packets_in ys
 packets_append [] ys = omega arith
 packets_append (x ∷ xs) ys = omega (arith, packets_append xs ys)
 
@@ -147,7 +159,7 @@ run_plain h room b a c q n g r m p =
     run_next h room b a c q n c q n g r m (rw p.no_cod refl) (rw p.no_qcd refl) (omega (arith, p.no_packets)) r.fits
 
 -- where the header ends behind the run
-run_ends :
+pub run_ends :
     (h : MainHeader) (room : ℕ) (b : BitReader) (c q : Bool) (n : ℕ) (e : Ending) (o : Result Passed DecodeError) (r : Run h room b c q n)
     → main_standing h.codestream.now h.csiz b.place ≡ ends e → o ≡ passed_by r.xs e → PassedTo h.codestream.now h.csiz h.segments room o
 run_ends h room b c q n e o r s is =

@@ -18,7 +18,15 @@ use Rattle.main_survey.specs.declared.passed.Passed.{Passed}
 use Rattle.main_survey.specs.declared.room.Room.{Room}
 
 -- SIZ, and the room for what it says
-with_room :
+pub siz_refused : (d : List ℕ) (p : ℕ) (r : Room) (f : DecodeError) (q : ℕ) → siz_outcome d p ≡ siz.refused f q → ComesTo d p r (Err f)
+siz_refused d p r f q e = rw e refl
+
+pub no_room :
+    (d : List ℕ) (p : ℕ) (r : Room) (s : Siz) (b : ℕ) → siz_outcome d p ≡ accepted s b → room_for r s.csiz (tiles_of s.grid) ≡ false
+    → ComesTo d p r (Err too_short)
+no_room d p r s b e f = rw (e, f) refl
+
+pub with_room :
     (d : List ℕ) (p : ℕ) (r : Room) (s : Siz) (b : ℕ) (xs : List Item) (e : Ending) (o : Result Header DecodeError)
     → siz_outcome d p ≡ accepted s b → room_for r s.csiz (tiles_of s.grid) ≡ true → MainHeaded d s.csiz b xs e
     → o ≡ concluded r.packets s b xs e → ComesTo d p r o

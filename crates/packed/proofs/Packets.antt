@@ -7,6 +7,17 @@ use Rattle.packed.specs.Segment.{cut, Inside}
 use Rattle.packed.specs.Ppm.{packet_layout, until_end, packets_from, packets_of, packets_left, rest_layout}
 use Rattle.packed.specs.declared.segment.SegmentReader.{SegmentReader}
 
+-- what a packet that is read says
+pub record PacketRead (d : List ℕ) (p : ℕ) (vs : List ℕ) (q : ℕ) : Type 0 where
+  pub values : vs ≡ long_at d p ∷ (p + 4) ∷ []
+  pub after : q ≡ p + 4 + long_at d p
+  pub onward : get_or vs 1 0 + get_or vs 0 0 ≡ q
+  pub within : q ≤ length d
+
+pub packet_read : (d : List ℕ) (p : ℕ) (vs : List ℕ) (q : ℕ) → meaning packet_layout d p ≡ read vs q → PacketRead d p vs q
+packet_read d p vs q e =
+    record { values = search rules; after = search rules; onward = search rules; within = search rules }
+
 pub steps_same :
     (m n end : ℕ) (d : List ℕ) (p : ℕ) → end ≤ p + m → end ≤ p + n → meaning (until_end m end p) d p ≡ meaning (until_end n end p) d p
 steps_same zero zero end d p h k = refl
@@ -33,6 +44,10 @@ all_left (suc n) end d p vs q h e = go (meaning (until_end n end (p + 4 + long_a
         → packets_from (suc n) d p ≡ packets_of vs
     go (read us u) f ih = let same = ih us u h f in search rules
     go (failed x u) f ih = search rules
+
+-- a reader that moved reads the same bytes
+pub inside_bytes : (s t : SegmentReader) → Inside s t → bytes_of (cut t) ≡ bytes_of (cut s)
+inside_bytes s t i = rw (i.end, i.stream) refl
 
 -- a packet, and those behind it
 pub rest_more :

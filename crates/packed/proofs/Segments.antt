@@ -1,7 +1,8 @@
 -- A PPM segment that is taken, and what stands inside it.
-use Rattle.std.proofs.Common.{◌≡◌, ℕ, ◌+◌, ◌≤◌, ◌∷◌, length, take, Ok, refl, ◌∙◌, arith, rules, length-take, get_or-take}
+use Rattle.std.proofs.Common.{◌≡◌, ℕ, ◌+◌, ◌≤◌, List, ◌∷◌, length, take, Ok, Err, Result, refl, ◌∙◌, arith, rules, length-take, get_or-take, Bor}
+use Rattle.faults.specs.declared.segment.ReadFault.{ReadFault}
 use Rattle.reader.specs.Bytes.{IsByte, byte_at, word_at}
-use Rattle.reader.specs.Reads.{bytes_of}
+use Rattle.reader.specs.Reads.{Reads, bytes_of}
 use Rattle.reader.specs.declared.reader.BitReader.{BitReader}
 use Rattle.layouts.specs.Layouts.{read, values_of, here, Answers, Parses}
 use Rattle.packed.specs.Segment.{segment_layout, cut, MadeSegment, AdvancesInside, ParsesInside}
@@ -9,6 +10,14 @@ use Rattle.packed.specs.Ppm.{ppm_reading, rest_layout, MadeCount, MadePpm}
 use Rattle.packed.specs.declared.segment.SegmentReader.{SegmentReader}
 use Rattle.packed.specs.declared.ppm.PpmMarkerData.{PpmMarkerData}
 use Rattle.packed.proofs.Packets.{all_left}
+
+-- a read that ends inside
+pub cut_reads :
+    {V : Type 0} (w : ℕ) (is js : Bor (List ℕ) → ℕ → V → Type 0) (b a : SegmentReader) (r : Result V ReadFault)
+    → b.reader.place + w ≤ b.end → ((v : V) → is b.reader.«data» b.reader.place v → js (cut b).«data» b.reader.place v)
+    → Reads w is b.reader a.reader r → Reads w js (cut b) (cut a) r
+cut_reads w is js b a (Ok v) h k f = (omega (arith, f.0, length-take b.end (bytes_of b.reader)), k v f.1, f.2)
+cut_reads w is js b a (Err e) h k f = (omega (arith, f.0, length-take b.end (bytes_of b.reader)), f.1, f.2)
 
 -- the segment is taken from b to a, its Zppm is read from s to t, and its packets are counted from t to u
 pub ppm_read :

@@ -1,10 +1,10 @@
 -- The places and spans of a resolution's precincts in one direction.
-use Rattle.std.proofs.Common.{◌≡◌, ℕ, ◌+◌, ◌-◌, ◌*◌, ◌/◌, ◌%◌, ◌^◌, ◌<◌, ◌≤◌, Bool, true, false, cond, eqb, ltb, ◌⊎◌, get_or, sym, refl, ap, ◌∙◌, subst, ap₂, inl, inr, mul-le-mul_right, mod-lt, mul_assoc, mul_comm, mul-pos, div-add-mod', arith, pow_pos, pow-add, pow_mono}
+use Rattle.std.proofs.Common.{◌≡◌, ℕ, ◌+◌, ◌-◌, ◌*◌, ◌/◌, ◌%◌, ◌^◌, ◌<◌, ◌≤◌, Bool, true, false, cond, eqb, ltb, ◌⊎◌, get_or, sym, refl, ap, ◌∙◌, subst, ap₂, inl, inr, mul-le-mul_right, mod-lt, mul_assoc, mul_comm, mul-pos, div-add-mod', le-mul_of_pos_right, div-mul-le_self, le_of_mul-le-mul_right, arith, pow_pos, pow-add, pow_mono}
 use Rattle.std.proofs.lemmas.Bool.{cases_lt, cond-false, cond-true, cond_both, leb-false, leb-true, ltb-true, ne_eqb, eq-eqb}
 use Rattle.std.proofs.lemmas.List.FromFn.{fill_by_all}
 use Rattle.std.proofs.lemmas.Bool.Decides.{nat_tests}
 use Rattle.rect.specs.Numbers.{ceil}
-use Rattle.rect.proofs.Ceil.{ceil_up}
+use Rattle.rect.proofs.Ceil.{ceil_up, le_ceil}
 use Rattle.precincts.specs.Places.{above, first}
 use Rattle.precincts.specs.Precincts.{Direction, count, cover, far, first_start_of, halved, reach, start, starts, stride}
 use Rattle.precincts.specs.Laws.{PrecinctLaws}
@@ -47,6 +47,10 @@ count_some d k h = go (ltb (reach d).from (reach d).to) refl h
         → ((reach d).from < (reach d).to) × ((reach d).from / side d + k < ceil (reach d).to (side d))
     go true e l = (ltb-true (reach d).from (reach d).to e, omega arith)
     go false e l = absurd (omega arith)
+
+-- where the span is not empty, the first cell lies before its end
+pub cells_up : (a b p : ℕ) → 0 < p → a ≤ b → a / p ≤ ceil b p
+cells_up a b p pos h = le_of_mul-le-mul_right {k = p} (omega (arith, div-mul-le_self a p, le_ceil b p pos)) pos
 
 pub later_before : (d : Direction) → 0 < d.step → (k : ℕ) → k < count d → ((reach d).from / side d + k) * stride d < d.over.to
 later_before d s k h =
@@ -125,6 +129,11 @@ above_inside d s h ne z =
     (cond-false (eqb (x % stride d) 0) x (cond (eqb ((reach d).from % side d) 0) up x) (ne_eqb (x % stride d) 0 ne)
     ∙ cond-true (eqb ((reach d).from % side d) 0) up x (eq-eqb ((reach d).from % side d) 0 z))
     (first_inside d s h)
+
+-- a precinct's number is below the tile's end
+pub index_small : (d : Direction) → 0 < d.step → (k : ℕ) → k < count d → k < d.over.to
+index_small d s k h =
+    omega (arith, later_before d s k h, le-mul_of_pos_right ((reach d).from / side d + k) (stride_pos d s))
 
 -- where the last precinct ends below 2 ^ 32, every border lies below it
 pub border_near : (d : Direction) (k : ℕ) → far d ≡ false → 0 < count d → k ≤ count d → (cover d k).from < 2 ^ 32
